@@ -1,0 +1,48 @@
+-- Sums of products of two lists: one element more, zeros, differences and sums of lists, the first element.
+use mathlib.Core.Path.{_≡_, refl, sym, _∙_, ap, ap₂}
+use mathlib.Core.List.{List, [], _∷_, _++_}
+use Prim.Native.Nat.{ℕ, zero, suc}
+use lib.IntN.{ℤ, pos, negℤ, _+ℤ_, _-ℤ_, _*ℤ_, +ℤ-assoc, +ℤ-comm, +ℤ-idl, +ℤ-idr, negℤ-+ℤ, *ℤ-zero, zero-*ℤ}
+use lib.ListN.{length, getD, replicate}
+use Rattle.whole.specs.Integer.{dot, subtractLists}
+use Rattle.whole.specs.Degree.{_⊞_, firstOf, restOf}
+use Rattle.whole.proofs.Ring.{*ℤ-+ℤ, negℤ-*ℤ, -ℤ-*ℤ, medial, sub-medial}
+
+pub dot-nil : (xs : List ℤ) → dot xs [] ≡ pos zero
+dot-nil [] = refl
+dot-nil (x ∷ xs) = refl
+
+-- one element more
+pub dot-append-one : (xs ys : List ℤ) (z : ℤ) → dot xs (ys ++ (z ∷ [])) ≡ dot xs ys +ℤ getD xs (length ys) (pos zero) *ℤ z
+dot-append-one [] [] z = sym (+ℤ-idl (pos zero *ℤ z) ∙ zero-*ℤ z)
+dot-append-one [] (y ∷ ys) z = sym (+ℤ-idl (pos zero *ℤ z) ∙ zero-*ℤ z)
+dot-append-one (x ∷ xs) [] z = +ℤ-comm (x *ℤ z) (dot xs []) ∙ ap (λ (t : ℤ). t +ℤ x *ℤ z) (dot-nil xs)
+dot-append-one (x ∷ xs) (y ∷ ys) z = ap (λ (t : ℤ). x *ℤ y +ℤ t) (dot-append-one xs ys z) ∙ sym (+ℤ-assoc (x *ℤ y) (dot xs ys) (getD xs (length ys) (pos zero) *ℤ z))
+
+pub dot-zeros : (xs : List ℤ) (n : ℕ) → dot xs (replicate n (pos zero)) ≡ pos zero
+dot-zeros [] n = refl
+dot-zeros (x ∷ xs) zero = refl
+dot-zeros (x ∷ xs) (suc n) = ap₂ _+ℤ_ (*ℤ-zero x) (dot-zeros xs n)
+
+pub dot-subtract : (xs ys zs : List ℤ) → dot (subtractLists xs ys) zs ≡ dot xs zs -ℤ dot ys zs
+dot-subtract [] [] zs = refl
+dot-subtract [] (y ∷ ys) [] = refl
+dot-subtract [] (y ∷ ys) (z ∷ zs) =
+    ap₂ _+ℤ_ (negℤ-*ℤ y z) (dot-subtract [] ys zs ∙ +ℤ-idl (negℤ (dot ys zs)))
+    ∙ sym (negℤ-+ℤ (y *ℤ z) (dot ys zs)) ∙ sym (+ℤ-idl (negℤ (y *ℤ z +ℤ dot ys zs)))
+dot-subtract (x ∷ xs) [] zs = sym (+ℤ-idr (dot (x ∷ xs) zs))
+dot-subtract (x ∷ xs) (y ∷ ys) [] = refl
+dot-subtract (x ∷ xs) (y ∷ ys) (z ∷ zs) =
+    ap₂ _+ℤ_ (-ℤ-*ℤ x y z) (dot-subtract xs ys zs) ∙ sym (sub-medial (x *ℤ z) (dot xs zs) (y *ℤ z) (dot ys zs))
+
+pub dot-⊞ : (xs ys zs : List ℤ) → dot xs (ys ⊞ zs) ≡ dot xs ys +ℤ dot xs zs
+unfolding _⊞_
+dot-⊞ [] ys zs = refl
+dot-⊞ (x ∷ xs) [] zs = sym (+ℤ-idl (dot (x ∷ xs) zs))
+dot-⊞ (x ∷ xs) (y ∷ ys) [] = sym (+ℤ-idr (dot (x ∷ xs) (y ∷ ys)))
+dot-⊞ (x ∷ xs) (y ∷ ys) (z ∷ zs) = ap₂ _+ℤ_ (*ℤ-+ℤ x y z) (dot-⊞ xs ys zs) ∙ medial (x *ℤ y) (x *ℤ z) (dot xs ys) (dot xs zs)
+
+pub dot-head : (x : ℤ) (xs ys : List ℤ) → dot (x ∷ xs) ys ≡ x *ℤ firstOf ys +ℤ dot xs (restOf ys)
+unfolding firstOf restOf
+dot-head x xs [] = sym (ap₂ _+ℤ_ (*ℤ-zero x) (dot-nil xs))
+dot-head x xs (y ∷ ys) = refl

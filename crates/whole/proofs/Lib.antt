@@ -1,0 +1,11 @@
+pub mod Ring
+pub mod Order
+pub mod Floor
+pub mod Dot
+pub mod Sum
+pub mod Degree
+pub mod Choose
+pub mod Newton
+pub mod Residue
+pub mod Word
+pub mod Examples

@@ -1,0 +1,5 @@
+pub mod Integer
+pub mod Sum
+pub mod Degree
+pub mod Newton
+pub mod Residue
