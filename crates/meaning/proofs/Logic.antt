@@ -1,0 +1,89 @@
+-- Facts about tests, results and bounds that the other proofs use.
+use mathlib.Core.Path.{_≡_, refl, sym, ap, _∙_, subst}
+use mathlib.Core.Bool.{Bool, true, false, not, cond, _&&_}
+use mathlib.Core.Option.{Option, none, some}
+use Prim.Native.Nat.{ℕ, zero, suc, _+_, _≤_, _<_}
+use native.Mathlib.Omega.{arith}
+use lib.Dec.{T, leb, ltb, leb→le, le→leb, ltb→lt, lt→ltb}
+use Rattle.meaning.specs.Reader.{Result, ok, refused, require, orRefuse, andThen}
+use Rattle.meaning.specs.Time.{Bounds, bounds}
+
+pub T-and : (a b : Bool) → T (a && b) → T a × T b
+T-and true b t = (tt, t)
+T-and false b t = absurd t
+
+pub and-T : (a b : Bool) → T a → T b → T (a && b)
+and-T true b t u = u
+and-T false b t u = t
+
+pub T→true : (b : Bool) → T b → b ≡ true
+T→true true t = refl
+T→true false t = absurd t
+
+pub true→T : (b : Bool) → b ≡ true → T b
+true→T b e = subst T (sym e) tt
+
+pub ltb-yes : (m n : ℕ) → m < n → ltb m n ≡ true
+ltb-yes m n h = T→true (ltb m n) (lt→ltb m n h)
+
+pub ltb-no : (m n : ℕ) → n ≤ m → ltb m n ≡ false
+ltb-no m n h = go (ltb m n) refl
+  where
+    go : (b : Bool) → ltb m n ≡ b → b ≡ false
+    go true e = absurd (let k = ltb→lt m n (subst T (sym e) tt) in omega arith)
+    go false e = refl
+
+pub leb-yes : (m n : ℕ) → m ≤ n → leb m n ≡ true
+leb-yes m n h = T→true (leb m n) (le→leb m n h)
+
+pub leb-no : (m n : ℕ) → n < m → leb m n ≡ false
+leb-no m n h = go (leb m n) refl
+  where
+    go : (b : Bool) → leb m n ≡ b → b ≡ false
+    go true e = absurd (let k = leb→le m n (true→T (leb m n) e) in omega arith)
+    go false e = refl
+
+-- two different constructors
+pub refused-is-not-ok : {A : Type 0} {X : Type 0} {number place : ℕ} {a : A} → refused number place ≡ ok a → X
+refused-is-not-ok e = absurd (let z : _≡_ {A = ℕ} 0 1 = cc in omega arith)
+
+pub none-is-not-some : {A : Type 0} {X : Type 0} {a : A} → none ≡ some a → X
+none-is-not-some e = absurd (let z : _≡_ {A = ℕ} 0 1 = cc in omega arith)
+
+pub ok-injective : {A : Type 0} {a b : A} → ok a ≡ ok b → a ≡ b
+ok-injective e = cc
+
+pub refused-number : {A : Type 0} {number place number′ place′ : ℕ} → _≡_ {A = Result A} (refused number place) (refused number′ place′) → number ≡ number′
+refused-number e = cc
+
+-- what an accepted result has passed; and what passes is accepted
+pub andThen-ok : {A B : Type 0} (r : Result A) (f : A → Result B) (b : B) → andThen r f ≡ ok b → (a : A) × (r ≡ ok a) × (f a ≡ ok b)
+unfolding andThen
+andThen-ok (ok a) f b e = (a, refl, e)
+andThen-ok (refused number place) f b e = refused-is-not-ok e
+
+pub require-ok : {A : Type 0} (c : Bool) (number place : ℕ) (r : Result A) (a : A) → require c number place r ≡ ok a → T c × (r ≡ ok a)
+unfolding require
+require-ok true number place r a e = (tt, e)
+require-ok false number place r a e = refused-is-not-ok e
+
+pub orRefuse-ok : {A : Type 0} (o : Option A) (number place : ℕ) (a : A) → orRefuse o number place ≡ ok a → o ≡ some a
+unfolding orRefuse
+orRefuse-ok (some b) number place a e = let z : b ≡ a = cc in ap some z
+orRefuse-ok none number place a e = refused-is-not-ok e
+
+pub andThen-yes : {A B : Type 0} {r : Result A} {a : A} (f : A → Result B) → r ≡ ok a → andThen r f ≡ f a
+unfolding andThen
+andThen-yes f e = ap (λ x. andThen x f) e
+
+pub require-yes : {A : Type 0} (c : Bool) (number place : ℕ) (r : Result A) → T c → require c number place r ≡ r
+unfolding require
+require-yes true number place r t = refl
+require-yes false number place r t = absurd t
+
+pub orRefuse-yes : {A : Type 0} {o : Option A} {a : A} (number place : ℕ) → o ≡ some a → orRefuse o number place ≡ ok a
+unfolding orRefuse
+orRefuse-yes number place e = ap (λ x. orRefuse x number place) e
+
+pub bounds-equal : (a b : Bounds) → a .least ≡ b .least → a .most ≡ b .most → a ≡ b
+bounds-equal a b p q = λ i. bounds (p i) (q i)

@@ -1,0 +1,106 @@
+-- Numbers in bytes: writing and reading undo each other.
+use mathlib.Core.Path.{_≡_, refl, sym, ap, _∙_, subst}
+use mathlib.Core.List.{List, [], _∷_, _++_}
+use mathlib.Core.Bool.{Bool, true, false, not, cond}
+use Prim.Native.Nat.{ℕ, zero, suc, _+_, _*_, _-_, _/_, _%_, _^_, _<_}
+use native.Mathlib.Nat.{pow-suc}
+use native.Mathlib.Omega.{arith}
+use lib.IntN.{ℤ, pos, negsuc}
+use lib.Signed.{mag}
+use lib.ListN.{length, getD, take, drop}
+use lib.Dec.{T, ltb, ltb→lt, lt→ltb, nltb→le}
+use Rattle.meaning.specs.Number.{unsigned, littleEndian, decodeSigned, encodeSigned, hasPattern}
+use Rattle.meaning.proofs.Logic.{true→T, ltb-yes, ltb-no}
+
+-- ---- bytes
+
+-- every element is a byte
+unfoldable pub Bytes : List ℕ → Type 0
+Bytes [] = Unit {0}
+Bytes (b ∷ bs) = (b < 256) × Bytes bs
+
+pub bytes-getD : (bs : List ℕ) → Bytes bs → (i : ℕ) → getD bs i 0 < 256
+unfolding Bytes
+bytes-getD [] h i = omega arith
+bytes-getD (b ∷ bs) (p, h) zero = p
+bytes-getD (b ∷ bs) (p, h) (suc i) = bytes-getD bs h i
+
+pub bytes-take : (n : ℕ) (bs : List ℕ) → Bytes bs → Bytes (take n bs)
+unfolding Bytes
+bytes-take zero bs h = tt
+bytes-take (suc n) [] h = tt
+bytes-take (suc n) (b ∷ bs) (p, h) = (p, bytes-take n bs h)
+
+pub bytes-drop : (n : ℕ) (bs : List ℕ) → Bytes bs → Bytes (drop n bs)
+unfolding Bytes
+bytes-drop zero bs h = h
+bytes-drop (suc n) [] h = tt
+bytes-drop (suc n) (b ∷ bs) (p, h) = bytes-drop n bs h
+
+pub bytes-append : (bs cs : List ℕ) → Bytes bs → Bytes cs → Bytes (bs ++ cs)
+unfolding Bytes
+bytes-append [] cs h k = k
+bytes-append (b ∷ bs) cs (p, h) k = (p, bytes-append bs cs h k)
+
+-- ---- unsigned numbers
+
+pub length-littleEndian : (count n : ℕ) → length (littleEndian count n) ≡ count
+unfolding littleEndian
+length-littleEndian zero n = refl
+length-littleEndian (suc count) n = ap suc (length-littleEndian count (n / 256))
+
+pub bytes-littleEndian : (count n : ℕ) → Bytes (littleEndian count n)
+unfolding littleEndian Bytes
+bytes-littleEndian zero n = tt
+bytes-littleEndian (suc count) n = (omega arith, bytes-littleEndian count (n / 256))
+
+pub unsigned-littleEndian : (count n : ℕ) → n < 256 ^ count → unsigned (littleEndian count n) ≡ n
+unfolding unsigned littleEndian
+unsigned-littleEndian zero n h = omega arith
+unsigned-littleEndian (suc count) n h =
+    let i = unsigned-littleEndian count (n / 256) (omega (arith, pow-suc 256 count)) in omega arith
+
+pub littleEndian-unsigned : (bs : List ℕ) → Bytes bs → littleEndian (length bs) (unsigned bs) ≡ bs
+unfolding unsigned littleEndian Bytes
+littleEndian-unsigned [] h = refl
+littleEndian-unsigned (b ∷ bs) (p, h) =
+    let low : (b + 256 * unsigned bs) % 256 ≡ b = omega arith in
+    let high : (b + 256 * unsigned bs) / 256 ≡ unsigned bs = omega arith in
+    (λ t. low t ∷ littleEndian (length bs) (high t)) ∙ ap (λ (x : List ℕ). b ∷ x) (littleEndian-unsigned bs h)
+
+pub unsigned-bound : (bs : List ℕ) → Bytes bs → unsigned bs < 256 ^ length bs
+unfolding unsigned Bytes
+unsigned-bound [] h = omega arith
+unsigned-bound (b ∷ bs) (p, h) = let i = unsigned-bound bs h in omega (arith, pow-suc 256 (length bs))
+
+-- ---- signed numbers
+
+pub decode-encode : (half : ℕ) (z : ℤ) → T (hasPattern half z) → decodeSigned half (encodeSigned half z) ≡ z
+unfolding decodeSigned encodeSigned hasPattern
+decode-encode half (pos n) t = ap (λ (c : Bool). cond c (pos n) (negsuc (half + half - suc n))) (ltb-yes n half (ltb→lt n half t))
+decode-encode half (negsuc n) t =
+    let h = ltb→lt n half t in
+    let e : half + half - suc (half + half - suc n) ≡ n = omega arith in
+    ap (λ (c : Bool). cond c (pos (half + half - suc n)) (negsuc (half + half - suc (half + half - suc n)))) (ltb-no (half + half - suc n) half (omega arith)) ∙ ap negsuc e
+
+pub encode-decode : (half n : ℕ) → n < half + half → encodeSigned half (decodeSigned half n) ≡ n
+unfolding encodeSigned decodeSigned
+encode-decode half n h = go (ltb n half)
+  where
+    go : (c : Bool) → encodeSigned half (cond c (pos n) (negsuc (half + half - suc n))) ≡ n
+    go true = refl
+    go false = omega arith
+
+-- a number that has a pattern has one of the half + half
+pub encode-bound : (half : ℕ) (z : ℤ) → T (hasPattern half z) → encodeSigned half z < half + half
+unfolding encodeSigned hasPattern
+encode-bound half (pos n) t = omega (arith, ltb→lt n half t)
+encode-bound half (negsuc n) t = omega (arith, ltb→lt n half t)
+
+pub decode-hasPattern : (half n : ℕ) → n < half + half → T (hasPattern half (decodeSigned half n))
+unfolding hasPattern decodeSigned
+decode-hasPattern half n h = go (ltb n half) refl
+  where
+    go : (c : Bool) → ltb n half ≡ c → T (ltb (mag (cond c (pos n) (negsuc (half + half - suc n)))) half)
+    go true e = true→T (ltb n half) e
+    go false e = lt→ltb (half + half - suc n) half (let l = nltb→le n half (subst (λ (c : Bool). T (not c)) (sym e) tt) in omega arith)

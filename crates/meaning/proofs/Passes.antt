@@ -1,0 +1,147 @@
+-- What one pass and one stage do; the number of passes that a stage is allowed is always enough.
+use mathlib.Core.Path.{_≡_, refl, ap, _∙_}
+use mathlib.Core.List.{List, [], _∷_}
+use mathlib.Core.Bool.{Bool, true, false}
+use Prim.Native.Nat.{ℕ, zero, suc, _+_, _≤_, _<_}
+use native.Mathlib.Omega.{arith}
+use lib.IntN.{ℤ}
+use lib.ListN.{length}
+use Rattle.meaning.specs.Record.{Loop, Record, workRecord, loopRecord, endRecord, choiceRecord, nextArmRecord}
+use Rattle.meaning.specs.Time.{Bounds}
+use Rattle.meaning.specs.Stage.{Frame, loopFrame, choiceFrame, State, state, afterEnd, Step, going, beginsVisit, atEnd, stuck, stateOf, visitBegun, andOn, enterLoop, endTrip, passRecord, pass, passFrom, stage}
+
+-- What one pass from a state comes to. Going on leaves fewer records to pass; beginning a visit adds 1 to the visits and nothing else does;
+-- at the sheet's end, and where no record can be passed, nothing changes.
+unfoldable pub PassDoes : State → Step → Type 0
+PassDoes s (going t) = (t .visits ≡ s .visits) × (length (t .remaining) < length (s .remaining))
+PassDoes s (beginsVisit t) = t .visits ≡ suc (s .visits)
+PassDoes s (atEnd t) = (t ≡ s) × (s .remaining ≡ [])
+PassDoes s (stuck t) = t ≡ s
+
+pub afterEnd-shortens : (inside : ℕ) (rs : List Record) → length (afterEnd inside rs) ≤ length rs
+unfolding afterEnd
+afterEnd-shortens inside [] = omega arith
+afterEnd-shortens inside (workRecord least most ∷ rs) = omega (arith, afterEnd-shortens inside rs)
+afterEnd-shortens inside (loopRecord l ∷ rs) = omega (arith, afterEnd-shortens (suc inside) rs)
+afterEnd-shortens zero (endRecord ∷ rs) = omega arith
+afterEnd-shortens (suc inside) (endRecord ∷ rs) = omega (arith, afterEnd-shortens inside rs)
+afterEnd-shortens inside (choiceRecord ∷ rs) = omega (arith, afterEnd-shortens (suc inside) rs)
+afterEnd-shortens inside (nextArmRecord ∷ rs) = omega (arith, afterEnd-shortens inside rs)
+
+module _ (ps : List ℤ) where
+  enterLoop-does : (n : ℕ) (l : Loop) (rs : List Record) (c : Bounds) (fs : List Frame) (v : ℕ) →
+      PassDoes (state (loopRecord l ∷ rs) c fs v) (enterLoop ps n l rs c fs v)
+  unfolding PassDoes enterLoop
+  enterLoop-does zero l rs c fs v = (refl, omega (arith, afterEnd-shortens zero rs))
+  enterLoop-does (suc n) l rs c fs v = refl
+
+  endTrip-does : (more : Bool) (sum : Bounds) (l : Loop) (body : List Record) (k : ℕ) (sums : List Bounds) (c enclosing : Bounds) (rs : List Record)
+      (f : Frame) (fs : List Frame) (v : ℕ) →
+      PassDoes (state (endRecord ∷ rs) c (f ∷ fs) v) (endTrip ps more sum l body k sums enclosing rs fs v)
+  unfolding PassDoes endTrip
+  endTrip-does true sum l body k sums c enclosing rs f fs v = refl
+  endTrip-does false sum l body k sums c enclosing rs f fs v = (refl, omega arith)
+
+  passRecord-does : (rs : List Record) (c : Bounds) (fs : List Frame) (v : ℕ) → PassDoes (state rs c fs v) (passRecord ps rs c fs v)
+  unfolding PassDoes passRecord
+  passRecord-does [] c fs v = (refl, refl)
+  passRecord-does (workRecord least most ∷ rs) c fs v = (refl, omega arith)
+  passRecord-does (loopRecord l ∷ rs) c fs v = enterLoop-does _ l rs c fs v
+  passRecord-does (choiceRecord ∷ rs) c fs v = (refl, omega arith)
+  passRecord-does (nextArmRecord ∷ rs) c [] v = refl
+  passRecord-does (nextArmRecord ∷ rs) c (loopFrame l body k sums enclosing ∷ fs) v = refl
+  passRecord-does (nextArmRecord ∷ rs) c (choiceFrame passedArms enclosing ∷ fs) v = (refl, omega arith)
+  passRecord-does (endRecord ∷ rs) c [] v = refl
+  passRecord-does (endRecord ∷ rs) c (choiceFrame passedArms enclosing ∷ fs) v = (refl, omega arith)
+  passRecord-does (endRecord ∷ rs) c (loopFrame l body k sums enclosing ∷ fs) v = endTrip-does _ _ l body k _ c enclosing rs _ fs v
+
+  pub pass-does : (s : State) → PassDoes s (pass ps s)
+  unfolding pass
+  pass-does s = passRecord-does (s .remaining) (s .current) (s .frames) (s .visits)
+
+  pub pass-visits : (s : State) → stateOf (pass ps s) .visits ≡ s .visits + visitBegun (pass ps s)
+  unfolding PassDoes stateOf visitBegun
+  pass-visits s = go (pass ps s) (pass-does s)
+    where
+      go : (p : Step) → PassDoes s p → stateOf p .visits ≡ s .visits + visitBegun p
+      go (going t) d = omega arith
+      go (beginsVisit t) d = omega arith
+      go (atEnd t) d = omega (arith, ap (λ (u : State). u .visits) (d .0))
+      go (stuck t) d = omega (arith, ap (λ (u : State). u .visits) d)
+
+  -- How many passes are allowed makes no difference where they are more than the records left: each pass that goes on leaves fewer.
+  passFrom-enough : (m n : ℕ) (s : State) → length (s .remaining) < m → length (s .remaining) < n → passFrom ps m s ≡ passFrom ps n s
+  unfolding passFrom andOn PassDoes
+  passFrom-enough zero zero s h k = absurd (omega arith)
+  passFrom-enough zero (suc n) s h k = absurd (omega arith)
+  passFrom-enough (suc m) zero s h k = absurd (omega arith)
+  passFrom-enough (suc m) (suc n) s h k = go (pass ps s) (pass-does s) (λ t. passFrom-enough m n t)
+    where
+      go : (p : Step) → PassDoes s p → ((t : State) → length (t .remaining) < m → length (t .remaining) < n → passFrom ps m t ≡ passFrom ps n t) →
+          andOn (λ t. passFrom ps m t) p ≡ andOn (λ t. passFrom ps n t) p
+      go (going t) d further = let shorter = d .1 in further t (omega arith) (omega arith)
+      go (beginsVisit t) d further = refl
+      go (atEnd t) d further = refl
+      go (stuck t) d further = refl
+
+  pub stage-enough : (n : ℕ) (s : State) → suc (length (s .remaining)) ≤ n → passFrom ps n s ≡ stage ps s
+  unfolding stage
+  stage-enough n s h = passFrom-enough n (suc (length (s .remaining))) s h (omega arith)
+
+  -- a stage is one pass, and a stage from there where it goes on
+  pub stage-unrolls : (s : State) → stage ps s ≡ andOn (λ t. stage ps t) (pass ps s)
+  unfolding stage passFrom PassDoes andOn
+  stage-unrolls s = go (pass ps s) (pass-does s)
+    where
+      go : (p : Step) → PassDoes s p →
+          andOn (λ t. passFrom ps (length (s .remaining)) t) p ≡ andOn (λ t. passFrom ps (suc (length (t .remaining))) t) p
+      go (going t) d = stage-enough (length (s .remaining)) t (d .1)
+      go (beginsVisit t) d = refl
+      go (atEnd t) d = refl
+      go (stuck t) d = refl
+
+  -- What one stage from a state comes to. It ends where a visit begins, at the sheet's end, or where no record can be passed: never because
+  -- the passes allowed are used up.
+  unfoldable pub StageDoes : State → Step → Type 0
+  StageDoes s (going t) = ⊥
+  StageDoes s (beginsVisit t) = t .visits ≡ suc (s .visits)
+  StageDoes s (atEnd t) = (t .visits ≡ s .visits) × (t .remaining ≡ []) × (pass ps t ≡ atEnd t)
+  StageDoes s (stuck t) = (t .visits ≡ s .visits) × (pass ps t ≡ stuck t)
+
+  StageDoes-after : (s t : State) (p : Step) → t .visits ≡ s .visits → StageDoes t p → StageDoes s p
+  unfolding StageDoes
+  StageDoes-after s t (going u) e d = d
+  StageDoes-after s t (beginsVisit u) e d = omega arith
+  StageDoes-after s t (atEnd u) e d = (omega (arith, d .0), d .1, d .2)
+  StageDoes-after s t (stuck u) e d = (omega (arith, d .0), d .1)
+
+  passFrom-does : (n : ℕ) (s : State) → length (s .remaining) < n → StageDoes s (passFrom ps n s)
+  unfolding passFrom andOn PassDoes StageDoes
+  passFrom-does zero s h = absurd (omega arith)
+  passFrom-does (suc n) s h = go (pass ps s) refl (pass-does s) (λ t. passFrom-does n t)
+    where
+      go : (p : Step) → pass ps s ≡ p → PassDoes s p → ((t : State) → length (t .remaining) < n → StageDoes t (passFrom ps n t)) →
+          StageDoes s (andOn (λ t. passFrom ps n t) p)
+      go (going t) e d further = let shorter = d .1 in StageDoes-after s t (passFrom ps n t) (d .0) (further t (omega arith))
+      go (beginsVisit t) e d further = d
+      go (atEnd t) e d further = (ap (λ (u : State). u .visits) (d .0), ap (λ (u : State). u .remaining) (d .0) ∙ d .1, ap (pass ps) (d .0) ∙ e)
+      go (stuck t) e d further = (ap (λ (u : State). u .visits) d, ap (pass ps) d ∙ e)
+
+  pub stage-does : (s : State) → StageDoes s (stage ps s)
+  unfolding stage
+  stage-does s = passFrom-does (suc (length (s .remaining))) s (omega arith)
+
+  pub stage-visits : (s : State) → stateOf (stage ps s) .visits ≡ s .visits + visitBegun (stage ps s)
+  unfolding StageDoes stateOf visitBegun
+  stage-visits s = go (stage ps s) (stage-does s)
+    where
+      go : (p : Step) → StageDoes s p → stateOf p .visits ≡ s .visits + visitBegun p
+      go (going t) d = absurd d
+      go (beginsVisit t) d = omega arith
+      go (atEnd t) d = omega (arith, d .0)
+      go (stuck t) d = omega (arith, d .0)
+
+  -- at the sheet's end a stage returns the same state
+  pub stage-at-end : (c : Bounds) (fs : List Frame) (v : ℕ) → stage ps (state [] c fs v) ≡ atEnd (state [] c fs v)
+  unfolding stage passFrom andOn pass passRecord
+  stage-at-end c fs v = refl

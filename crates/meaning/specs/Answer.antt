@@ -1,0 +1,49 @@
+-- The library call's answer: three figures, or a refusal with its place.
+use mathlib.Core.List.{List, []}
+use mathlib.Core.Bool.{Bool, _&&_}
+use mathlib.Core.Option.{Option, none, some}
+use Prim.Native.Nat.{ℕ}
+use lib.IntN.{ℤ}
+use lib.Dec.{leb}
+use Rattle.meaning.specs.Limits.{budgetLimit}
+use Rattle.meaning.specs.Record.{Record}
+use Rattle.meaning.specs.Reader.{Result, ok, refused, require, andThen, read}
+use Rattle.meaning.specs.Tree.{Block, tree}
+use Rattle.meaning.specs.Time.{time}
+use Rattle.meaning.specs.Visits.{visits}
+use Rattle.meaning.specs.Report.{LoopReport, loopReports, firstOverCeiling}
+
+pub record Figures : Type 0 where
+  pub least : ℕ
+  pub most : ℕ
+  pub visits : ℕ
+
+abbrev pub figures : ℕ → ℕ → ℕ → Figures
+figures least most visits = record { least = least; most = most; visits = visits }
+
+-- the reports of a whole sheet's loops
+unfoldable pub sheetReports : List ℤ → List Record → List LoopReport
+sheetReports parameters rs = loopReports parameters (tree rs) [] 0
+
+-- 6: a ceiling above the limit; the first such loop
+unfoldable pub checkCeilings : {A : Type 0} → Option ℕ → A → Result A
+checkCeilings none a = ok a
+checkCeilings (some offset) a = refused 6 offset
+
+-- the records of a sheet that is not refused 1 to 6 at these parameters
+unfoldable pub accepted : List ℕ → List ℤ → Result (List Record)
+accepted sheet parameters = andThen (read sheet) λ rs. checkCeilings (firstOverCeiling (sheetReports parameters rs)) rs
+
+-- the sheet's figures: the time trip by trip, and the visits of its outermost loops, each entered once
+unfoldable pub figuresOf : List ℤ → Block → Figures
+figuresOf parameters b = figures (time parameters b [] .least) (time parameters b [] .most) (visits parameters b [] [])
+
+-- 8: more visits than the budget
+unfoldable pub checkVisits : ℕ → Figures → Result Figures
+checkVisits budget f = require (leb (f .visits) budget) 8 0 (ok f)
+
+-- document 01: the library call, in the order 7, then 1 to 5, then 6, then 8
+unfoldable pub answer : List ℕ → List ℤ → ℕ → Result Figures
+answer sheet parameters budget =
+    require (leb 1 budget && leb budget budgetLimit) 7 0
+    (andThen (accepted sheet parameters) λ rs. checkVisits budget (figuresOf parameters (tree rs)))

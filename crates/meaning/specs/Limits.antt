@@ -1,0 +1,60 @@
+-- Document 01's numbers, each named once.
+use Prim.Native.Nat.{ℕ, _^_}
+
+-- "The sheet": at most 64 records, loops 4 deep, 8 records open together
+abbrev pub recordLimit : ℕ
+recordLimit = 64
+
+abbrev pub depthLimit : ℕ
+depthLimit = 4
+
+abbrev pub openLimit : ℕ
+openLimit = 8
+
+-- "The sheet": the largest most of a work, start and step of a loop; a loop's largest stride
+abbrev pub costLimit : ℕ
+costLimit = 4095
+
+abbrev pub strideLimit : ℕ
+strideLimit = 1000
+
+-- a form's constant has 16 bits, its factors 8: half of the patterns of each are negative
+abbrev pub constantHalf : ℕ
+constantHalf = 32768
+
+abbrev pub factorHalf : ℕ
+factorHalf = 128
+
+-- a form has factors for the indexes of depths 1 to 3 and for parameters 1 to 4
+abbrev pub indexFactors : ℕ
+indexFactors = 3
+
+abbrev pub parameterFactors : ℕ
+parameterFactors = 4
+
+-- refusal 6: the largest ceiling
+abbrev pub ceilingLimit : ℕ
+ceilingLimit = 2048
+
+-- refusal 7: the largest visit budget
+abbrev pub budgetLimit : ℕ
+budgetLimit = 1000000
+
+-- refusal 9: the bytes that the C call fills
+abbrev pub areaLength : ℕ
+areaLength = 24
+
+-- "Time": every figure is below this
+abbrev pub figureLimit : ℕ
+figureLimit = 2 ^ 62
+
+-- demand 3: visits for each loop, where every loop is closed
+abbrev pub visitsPerLoop : ℕ
+visitsPerLoop = 24
+
+-- `bound`: four parameters and the budget stand before the sheet; so many bytes of the input matter
+abbrev pub headerLength : ℕ
+headerLength = 12
+
+abbrev pub inputLimit : ℕ
+inputLimit = 1613

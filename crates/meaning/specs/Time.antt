@@ -1,0 +1,67 @@
+-- Trips, and the time trip by trip (equation 1 of document 003): least and most together.
+use mathlib.Core.List.{List, [], _∷_, _++_}
+use Prim.Native.Nat.{ℕ, zero, suc, _+_, _*_, min, max}
+use lib.IntN.{ℤ, pos, sucℤ, _+ℤ_}
+use Rattle.whole.specs.Integer.{atLeastZero, floorDivide}
+use Rattle.meaning.specs.Form.{Form, value, subtract}
+use Rattle.meaning.specs.Record.{Loop}
+use Rattle.meaning.specs.Tree.{Block, Arms, empty, work, loop, choice, lastArm, arm}
+
+-- document 01: D, upper minus lower form
+unfoldable pub difference : Loop → Form
+difference l = subtract (l .upper) (l .lower)
+
+-- max(0, floor(D ÷ stride) + 1)
+unfoldable pub tripCount : ℤ → ℕ → ℕ
+tripCount d stride = atLeastZero (sucℤ (floorDivide d stride))
+
+-- a least and a most
+pub record Bounds : Type 0 where
+  pub least : ℕ
+  pub most : ℕ
+
+abbrev pub bounds : ℕ → ℕ → Bounds
+bounds least most = record { least = least; most = most }
+
+abbrev pub exactly : ℕ → Bounds
+exactly n = bounds n n
+
+-- what follows one another adds up
+infixl 6 _⊕_
+abbrev pub _⊕_ : Bounds → Bounds → Bounds
+a ⊕ b = bounds (a .least + b .least) (a .most + b .most)
+
+-- of two arms: the smaller least and the larger most
+abbrev pub hull : Bounds → Bounds → Bounds
+hull a b = bounds (min (a .least) (b .least)) (max (a .most) (b .most))
+
+-- f 0 ⊕ .. ⊕ f (n - 1)
+unfoldable pub sumOver : ℕ → (ℕ → Bounds) → Bounds
+sumOver zero f = exactly zero
+sumOver (suc n) f = sumOver n f ⊕ f n
+
+module _ (parameters : List ℤ) where
+  -- document 01: trips of a loop, at the indexes of the loops around it, outermost first
+  unfoldable pub trips : Loop → List ℤ → ℕ
+  trips l indexes = tripCount (value parameters (difference l) indexes) (l .stride)
+
+  -- the index in a trip, trips counted from 0: it starts at the lower form and grows by the stride
+  unfoldable pub indexAt : Loop → List ℤ → ℕ → ℤ
+  indexAt l indexes trip = value parameters (l .lower) indexes +ℤ pos (trip * l .stride)
+
+  -- the indexes inside loop l in one of its trips
+  unfoldable pub innerIndexes : Loop → List ℤ → ℕ → List ℤ
+  innerIndexes l indexes trip = indexes ++ (indexAt l indexes trip ∷ [])
+
+  -- document 01: time. A loop's is start, plus for each trip the body and one step.
+  unfoldable mutual
+    pub time : Block → List ℤ → Bounds
+    time empty indexes = exactly zero
+    time (work least most rest) indexes = bounds least most ⊕ time rest indexes
+    time (loop l body rest) indexes =
+        exactly (l .start) ⊕ sumOver (trips l indexes) (λ trip. time body (innerIndexes l indexes trip) ⊕ exactly (l .step)) ⊕ time rest indexes
+    time (choice arms rest) indexes = armsTime arms indexes ⊕ time rest indexes
+
+    pub armsTime : Arms → List ℤ → Bounds
+    armsTime (lastArm b) indexes = time b indexes
+    armsTime (arm b arms) indexes = hull (time b indexes) (armsTime arms indexes)

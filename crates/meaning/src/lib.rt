@@ -1,0 +1,1 @@
+// What a sheet means (specs/) and the theorems about it (proofs/); no code.

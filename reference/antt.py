@@ -1,0 +1,204 @@
+"""Text of antt terms and theorems. All names are in one table, so that they are easy to change."""
+
+from typing import NamedTuple, Optional
+
+from calls import Answer, Figures
+from nest import LoopReport, Parameters
+from records import Choice, End, Form, Loop, NextArm, Record, Work
+from sheet import RawRecord
+
+# What is on the left is used in this folder, what is on the right is written.
+NAME = {
+    "answer": "answer",
+    "figures": "figures",
+    "answered": "ok",
+    "refusal": "refused",
+    "reports": "sheetReportsOf",
+    "closed loop": "closedLoop",
+    "walked loop": "walkedLoop",
+    "state after": "stateAfter",
+    "state": "state",
+    "bounds": "bounds",
+    "loop frame": "loopFrame",
+    "choice frame": "choiceFrame",
+    "none": "none",
+    "some": "some",
+    "drop": "drop",
+    "record list": "List Record",
+    "work": "workRecord",
+    "loop": "loopRecord",
+    "loop of": "loopOf",
+    "loop type": "Loop",
+    "end": "endRecord",
+    "choice": "choiceRecord",
+    "next arm": "nextArmRecord",
+    "form": "form",
+    "form type": "Form",
+    "raw": "raw",
+    "raw type": "RawRecord",
+    "write": "write",
+    "written": "written",
+    "not written": "notWritten",
+    "c call": "cCall",
+    "called": "called",
+    "record at": "headAt",
+    "found": "found",
+    "not found": "refused",
+    "sheet end": "sheetEnd",
+    "text": "programText",
+    "characters": "text",
+    "hex": "hex",
+    "zero parameters": "zeroParameters",
+    "define": "abbrev",
+}
+
+# Lines at the top of each file, after its own comment.
+LIST = "use mathlib.Core.List.{List, [], _∷_}"
+INTEGER = "use lib.IntN.{pos, negsuc}"
+SPECS = "use Rattle.meaning.specs."
+PROOFS = "use Rattle.meaning.proofs."
+PATH = "use mathlib.Core.Path.{_≡_, refl}"
+COMPUTES = PROOFS + "Computes.{computes}"
+ANSWER = [
+    PATH, LIST, INTEGER,
+    SPECS + "Reader.{ok, refused}",
+    SPECS + "Answer.{figures, answer}",
+    PROOFS + "Vocabulary.{hex, zeroParameters, closedLoop, walkedLoop, sheetReportsOf}",
+    COMPUTES,
+]
+IMPORTS = {
+    "Readings.antt": ANSWER,
+    "Known.antt": ANSWER,
+    "States.antt": [
+        PATH, LIST, "use mathlib.Core.Option.{none, some}", INTEGER, "use lib.ListN.{drop}",
+        SPECS + "Record.{Loop, Record, workRecord, loopRecord, endRecord, choiceRecord, nextArmRecord}",
+        SPECS + "Time.{bounds}",
+        SPECS + "Stage.{loopFrame, choiceFrame, state}",
+        PROOFS + "Vocabulary.{zeroParameters, form, loopOf, stateAfter}",
+        COMPUTES,
+    ],
+    "Calls.antt": [
+        PATH, LIST, INTEGER,
+        SPECS + "Form.{Form}",
+        SPECS + "Reader.{refused, headAt}",
+        SPECS + "Writer.{RawRecord, write}",
+        SPECS + "CCall.{cCall}",
+        SPECS + "Text.{text}",
+        SPECS + "Program.{programText}",
+        PROOFS + "Vocabulary.{hex, zeroParameters, form, raw, written, notWritten, called, found, sheetEnd}",
+        COMPUTES,
+    ],
+}
+
+
+class Equation(NamedTuple):
+    """Left ≡ right, under a comment."""
+
+    tells: str
+    left: str
+    right: str
+
+
+def term(name: str, *arguments: str) -> str:
+    """A named function or constructor with its arguments."""
+    return " ".join([NAME[name], *arguments])
+
+
+def inner(text: str) -> str:
+    """A term as an argument: in parentheses if it has several parts."""
+    return f"({text})" if " " in text else text
+
+
+def listed(items: list[str]) -> str:
+    return " ∷ ".join([*items, "[]"])
+
+
+def octets(data: bytes) -> str:
+    """Bytes in hexadecimal, as an argument."""
+    return inner(term("hex", f'"{data.hex()}"')) if data else "[]"
+
+
+def text(data: bytes) -> str:
+    """Bytes that are text, as an argument."""
+    return inner(term("characters", '"' + data.decode().replace("\n", "\\n") + '"'))
+
+
+def integer(number: int) -> str:
+    return f"pos {number}" if number >= 0 else f"negsuc {-number - 1}"
+
+
+def integers(numbers: tuple[int, ...]) -> str:
+    """A list of integers, as an argument."""
+    return inner(listed([integer(number) for number in numbers]))
+
+
+def parameters(values: Parameters) -> str:
+    return integers(values) if any(values) else term("zero parameters")
+
+
+def form(value: Form) -> str:
+    constant = inner(integer(value.constant))
+    return term("form", constant, integers(value.indexes), integers(value.parameters))
+
+
+def loop_of(loop: Loop) -> str:
+    numbers = [str(loop.start), str(loop.step), str(loop.stride)]
+    return term("loop of", *numbers, inner(form(loop.lower)), inner(form(loop.upper)))
+
+
+def record(value: Record, loop_name: Optional[str] = None) -> str:
+    """A record; a loop by its name, where it has one."""
+    if isinstance(value, Work):
+        return term("work", str(value.least), str(value.most))
+    if isinstance(value, Loop):
+        return term("loop", loop_name or inner(loop_of(value)))
+    return term({End: "end", Choice: "choice", NextArm: "next arm"}[type(value)])
+
+
+def raw_record(entry: RawRecord) -> str:
+    """An entry of the writer: kind, then every field of every kind."""
+    numbers = [str(number) for number in entry[:6]]
+    return term("raw", *numbers, inner(form(entry.lower)), inner(form(entry.upper)))
+
+
+def answer(value: Answer) -> str:
+    numbers = [str(number) for number in value]
+    if isinstance(value, Figures):
+        return term("answered", inner(term("figures", *numbers)))
+    return term("refusal", *numbers)
+
+
+def loop_reports(reports: list[LoopReport]) -> str:
+    return inner(listed([
+        term("closed loop" if report.closed else "walked loop", str(report.offset), str(report.ceiling))
+        for report in reports
+    ]))
+
+
+def theorem(name: str, equations: list[Equation]) -> str:
+    """One theorem: the equations as a product, each proved by computing."""
+    lines = [f"pub {name} :"]
+    for number, equation in enumerate(equations):
+        if equation.tells:
+            lines.append(f"    -- {equation.tells}")
+        joint = "    × " if number > 0 else "    "
+        lines.append(f"{joint}({equation.left} ≡ {equation.right})")
+    lines.append("unfolding computes")
+    proofs = ", ".join(["refl"] * len(equations))
+    lines.append(f"{name} = ({proofs})" if len(equations) > 1 else f"{name} = refl")
+    return "\n".join(lines) + "\n"
+
+
+def definition(name: str, kind: str, value: str) -> str:
+    return f"{NAME['define']} {name} : {kind}\n{name} = {value}\n"
+
+
+def grouped(name: str, equations: list[Equation], size: int) -> list[str]:
+    """Theorems of at most `size` equations, named name-1, name-2, .."""
+    groups = [equations[at:at + size] for at in range(0, len(equations), size)]
+    return [theorem(f"{name}-{number}", group) for number, group in enumerate(groups, 1)]
+
+
+def file_text(name: str, comments: list[str], parts: list[str]) -> str:
+    head = [f"-- {comment}" for comment in comments] + IMPORTS[name]
+    return "\n".join(["\n".join(head) + "\n", *parts])

@@ -1,0 +1,111 @@
+"""Cases of the C call, the record reader and the program."""
+
+from typing import NamedTuple
+
+import known
+from known import ZERO, form, loop, span
+from nest import Parameters
+from records import Choice, End, NextArm, Work, encode, encode_all
+
+TRIANGLE = encode_all(known.TRIANGLE)
+UNEVEN = encode_all(known.UNEVEN)
+PARAMETER = encode_all(known.PARAMETER)
+ONE_WORK = encode(Work(3, 5))
+WIDE = encode_all([Work(1, 300), span(0, 2047, start=4095, step=4095), Work(0, 4095), End()])
+SMALL = encode_all([Choice(), span(0, 3), Work(1, 2), End(), NextArm(), End()])
+
+
+class CallCase(NamedTuple):
+    tells: str
+    sheet: bytes
+    parameters: Parameters
+    budget: int
+    area: bytes
+
+
+def area(length: int) -> bytes:
+    return bytes(101 + i for i in range(length))
+
+
+C_CALL_CASES = [
+    CallCase("area of 24 bytes", TRIANGLE, ZERO, 100, area(24)),
+    CallCase("area of 27 bytes: the last three stay", TRIANGLE, ZERO, 100, area(27)),
+    CallCase("area of 23 bytes", TRIANGLE, ZERO, 100, area(23)),
+    CallCase("no area", TRIANGLE, ZERO, 100, b""),
+    CallCase("9 before 7 and 2", b"\x09", ZERO, 0, area(1)),
+    CallCase("empty sheet", b"", ZERO, 1, area(24)),
+    CallCase("low byte first", WIDE, ZERO, 1, area(25)),
+    CallCase("a parameter", PARAMETER, (100, 0, 0, 0), 4, area(24)),
+    CallCase("budget 0", TRIANGLE, ZERO, 0, area(24)),
+    CallCase("budget 1,000,000", ONE_WORK, ZERO, 1_000_000, area(24)),
+    CallCase("budget 1,000,001", ONE_WORK, ZERO, 1_000_001, area(24)),
+    CallCase("budget 2^32 - 1, before 2", b"\x09", ZERO, 2 ** 32 - 1, area(25)),
+    CallCase("1", TRIANGLE[:20], ZERO, 1, area(26)),
+    CallCase("2", ONE_WORK + b"\x06", ZERO, 1, area(26)),
+    CallCase("3", encode(Work(0, 4096)), ZERO, 1, area(24)),
+    CallCase("4", b"\x04\x03" * 32 + b"\x09", ZERO, 1, area(24)),
+    CallCase("5", b"\x03", ZERO, 1, area(24)),
+    CallCase("5, open at the end", b"\x04", ZERO, 1, area(24)),
+    CallCase("6", encode_all([span(0, 2048), End()]), ZERO, 1, area(24)),
+    CallCase("20 visits, budget 20", UNEVEN, ZERO, 20, area(24)),
+    CallCase("20 visits, budget 19", UNEVEN, ZERO, 19, area(24)),
+]
+
+
+class ReaderCase(NamedTuple):
+    tells: str
+    sheet: bytes
+    offset: int
+
+
+READER_CASES = [
+    ReaderCase("choice", SMALL, 0),
+    ReaderCase("loop", SMALL, 1),
+    ReaderCase("work", SMALL, 26),
+    ReaderCase("end", SMALL, 31),
+    ReaderCase("next arm", SMALL, 32),
+    ReaderCase("last record", SMALL, 33),
+    ReaderCase("the sheet's end", SMALL, 34),
+    ReaderCase("past the sheet's end", SMALL, 35),
+    ReaderCase("empty sheet", b"", 0),
+    ReaderCase("inside a body", SMALL, 2),
+    ReaderCase("loop, one byte short", SMALL[:25], 1),
+    ReaderCase("loop, just whole", SMALL[:26], 1),
+    ReaderCase("kind alone", b"\x02", 0),
+    ReaderCase("work, one byte short", ONE_WORK[:4], 0),
+    ReaderCase("work, just whole", ONE_WORK, 0),
+    ReaderCase("kind 0", b"\x00", 0),
+    ReaderCase("kind 6", ONE_WORK + b"\x06", 5),
+    ReaderCase("kind 255", b"\x03\xff\x03", 1),
+    ReaderCase("fields are not looked at", b"\x01\xff\xff\x00\x00", 0),
+]
+
+
+class TextCase(NamedTuple):
+    tells: str
+    data: bytes
+
+
+def program_input(sheet: bytes, parameters: Parameters = ZERO, budget: int = 100) -> bytes:
+    """Four parameters of 2 bytes, the budget of 4, the sheet."""
+    values = b"".join(value.to_bytes(2, "little", signed=True) for value in parameters)
+    return values + budget.to_bytes(4, "little") + sheet
+
+
+TEXT_CASES = [
+    TextCase("the printed example", program_input(TRIANGLE)),
+    TextCase("walked", program_input(UNEVEN)),
+    TextCase("empty sheet", program_input(b"")),
+    TextCase("no input", b""),
+    TextCase("11 bytes", program_input(b"")[:11]),
+    TextCase("2 at a place of two digits", program_input(ONE_WORK * 2 + b"\x06")),
+    TextCase("budget 0", program_input(TRIANGLE, ZERO, 0)),
+    TextCase("budget's third byte", program_input(ONE_WORK, ZERO, 65536)),
+    TextCase("8", program_input(TRIANGLE, ZERO, 2)),
+    TextCase("6 in the second loop", program_input(encode_all(
+        [span(0, 1), loop(form(), form(2047, i=1)), End(), End()]))),
+    TextCase("parameters in order, signed", program_input(encode_all(
+        [loop(form(p=(1, 0, 0, -2)), form(p=(0, 3, -1)), stride=2), Work(1, 10), End()]),
+        (-5, 4, -300, 20))),
+    TextCase("a large figure", program_input(WIDE)),
+]

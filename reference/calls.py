@@ -1,0 +1,103 @@
+"""The library call, the C call and the text of `bound`."""
+
+from typing import NamedTuple, Union
+
+import stages
+import trips
+from nest import LoopReport, Parameters, ceiling_refusal, loop_reports
+from records import PARAMETERS, Record, Refusal, signed, unsigned
+from sheet import read
+from trips import Bounds, TooMany
+
+BUDGET_LIMIT = 1_000_000
+ANSWER_LENGTH = 24
+HEADER_LENGTH = 12
+INPUT_LIMIT = 1613
+
+# Up to so many trips the figures come from going over every trip.
+TRIP_LIMIT = 4_000
+
+
+class Figures(NamedTuple):
+    least: int
+    most: int
+    visits: int
+
+
+Answer = Union[Figures, Refusal]
+
+
+def answer(sheet: bytes, parameters: Parameters, budget: int) -> Answer:
+    """The library call: 7; 1 to 5; 6; 8; or the figures."""
+    if not 1 <= budget <= BUDGET_LIMIT:
+        return Refusal(7, 0)
+    records = read(sheet)
+    if isinstance(records, Refusal):
+        return records
+    refusal = ceiling_refusal(records, parameters)
+    if refusal is not None:
+        return refusal
+    try:
+        visits = trips.visits(records, parameters, budget)
+    except TooMany:
+        return Refusal(8, 0)
+    bounds = times(sheet, records, parameters)
+    return Figures(bounds.least, bounds.most, visits)
+
+
+def times(sheet: bytes, records: list[Record], parameters: Parameters) -> Bounds:
+    """Least and most of a sheet that is not refused 1 to 6.
+
+    A closed sheet can have 2,048^4 trips, which nobody can go over. So where
+    there are more than TRIP_LIMIT trips, the figures are those of the stages.
+    The tests check that both agree wherever the trips can be gone over.
+    """
+    try:
+        return trips.time(records, parameters, TRIP_LIMIT)
+    except TooMany:
+        nest = stages.nest_of(sheet, parameters)
+        return stages.run_stages(nest, BUDGET_LIMIT).current
+
+
+def reports(sheet: bytes, parameters: Parameters) -> list[LoopReport]:
+    """The loop reports of a sheet; none where it is refused 1 to 5."""
+    records = read(sheet)
+    if isinstance(records, Refusal):
+        return []
+    return loop_reports(records, parameters)
+
+
+class Called(NamedTuple):
+    """The C call's number, and the whole area after it."""
+
+    number: int
+    area: bytes
+
+
+def c_call(sheet: bytes, parameters: Parameters, budget: int, area: bytes) -> Called:
+    """The C call: 9 first, then the library call; a refusal writes nothing."""
+    if len(area) < ANSWER_LENGTH:
+        return Called(9, area)
+    result = answer(sheet, parameters, budget)
+    if isinstance(result, Refusal):
+        return Called(result.number, area)
+    written = b"".join(figure.to_bytes(8, "little") for figure in result)
+    return Called(0, written + area[ANSWER_LENGTH:])
+
+
+def program_text(data: bytes) -> bytes:
+    """What `bound` prints for its standard input."""
+    data = data[:INPUT_LIMIT]
+    if len(data) < HEADER_LENGTH:
+        return b"refused 1 at 0\n"
+    parameters = tuple(signed(data[2 * i:2 * i + 2]) for i in range(PARAMETERS))
+    budget = unsigned(data[8:HEADER_LENGTH])
+    sheet = data[HEADER_LENGTH:]
+    result = answer(sheet, parameters, budget)
+    if isinstance(result, Refusal):
+        return f"refused {result.number} at {result.place}\n".encode()
+    lines = [f"best {result.least} worst {result.most} visits {result.visits}\n"]
+    for report in reports(sheet, parameters):
+        way = "closed" if report.closed else "walked"
+        lines.append(f"loop {report.offset} {way} ceiling {report.ceiling}\n")
+    return "".join(lines).encode()

@@ -1,0 +1,168 @@
+"""Checks of one sheet against another way to reckon the same thing."""
+
+from itertools import product
+from random import Random
+
+import stages
+import trips
+from calls import Figures, answer
+from nest import LoopFacts, Parameters, facts, loop_reports, subtract, value
+from records import Form, Loop, Record, Refusal, Work, encode_all
+from sheet import BLANK, RawRecord, Written, raw, read, write
+from tree import Body, ChoiceNode, LoopNode, loops_directly_in, loops_in, tree
+from trips import Bounds, TooMany
+
+
+def check_round_trip(records: list[Record]) -> None:
+    """The reader and the writer undo each other; bytes past the sheet stay."""
+    sheet = encode_all(records)
+    assert read(sheet) == records
+    entries = [raw(record) for record in records]
+    past = [RawRecord(kind=9)] if len(records) < 64 else []
+    written = write(entries + past, len(records), b"\xaa" * (len(sheet) + 3))
+    assert written == Written(len(sheet), sheet + b"\xaa" * 3)
+    if sheet:
+        short = b"\xaa" * (len(sheet) - 1)
+        assert write(entries + [BLANK], len(records), short) == Written(Refusal(9, 0), short)
+
+
+def check_stages(records: list[Record], parameters: Parameters, limit: int) -> bool:
+    """Stages against visits by the definition and against every trip.
+
+    Answers whether all trips could be gone over.
+    """
+    nest = stages.nest_of(encode_all(records), parameters)
+    assert not isinstance(nest, Refusal)
+    try:
+        defined = trips.visits(records, parameters, limit)
+    except TooMany:
+        assert stages.run_stages(nest, limit).visits == limit + 1
+        return False
+    state = stages.first_state()
+    for begun in range(1, defined + 1):
+        state = stages.next_state(nest, state)
+        assert state.visits == begun and not stages.at_end(nest, state)
+    state = stages.next_state(nest, state)
+    assert stages.at_end(nest, state) and state.frames == () and state.visits == defined
+    assert stages.next_state(nest, state) == state
+    assert 0 <= state.current.least <= state.current.most < 2 ** 62
+    check_visit_bound(records, parameters, defined)
+    check_answer(records, parameters, Figures(*state.current, defined))
+    try:
+        assert trips.time(records, parameters, limit) == state.current
+    except TooMany:
+        return False
+    return True
+
+
+def check_visit_bound(records: list[Record], parameters: Parameters, visits: int) -> None:
+    """Where every loop is closed, there are at most 24 visits a loop."""
+    reports = loop_reports(records, parameters)
+    if all(report.closed for report in reports):
+        assert visits <= 24 * len(reports)
+
+
+def check_answer(records: list[Record], parameters: Parameters, figures: Figures) -> None:
+    """The library call at the visits' own budget, and at one less."""
+    sheet = encode_all(records)
+    assert answer(sheet, parameters, max(1, figures.visits)) == figures
+    if figures.visits > 1:
+        assert answer(sheet, parameters, figures.visits - 1) == Refusal(8, 0)
+
+
+def check_ceilings(records: list[Record], parameters: Parameters, random: Random) -> None:
+    """No trip count met on a random way down passes the ceiling or leaves the range of D."""
+    known = facts(records, parameters)
+
+    def go_down(body: Body, indexes: list[int]) -> None:
+        for node in loops_directly_in(body):
+            count = trips.trips_of(node.loop, indexes, parameters)
+            fact = known[node.position]
+            assert count <= fact.ceiling
+            difference = value(subtract(node.loop.upper, node.loop.lower), indexes, parameters)
+            assert fact.difference.smallest <= difference <= fact.difference.largest
+            if count > 0:
+                counter = random.randrange(count)
+                index = trips.index_of(node.loop, counter, indexes, parameters)
+                go_down(node.body, indexes + [index])
+
+    go_down(tree(records), [])
+
+
+def corners(form: Form, boxes: list[tuple[int, int]], parameters: Parameters) -> list[int]:
+    """The form at all corners of the boxes of the indexes."""
+    return [value(form, list(corner), parameters) for corner in product(*boxes)]
+
+
+def push_by_definition(path: list[Loop], form: Form, mover: int, parameters: Parameters) -> int:
+    """What one more trip of `path[mover]` adds to a form, the other counters held."""
+    def at(counters: list[int]) -> int:
+        indexes: list[int] = []
+        for loop, counter in zip(path, counters):
+            indexes.append(trips.index_of(loop, counter, indexes, parameters))
+        return value(form, indexes, parameters)
+
+    counters = [3 + depth for depth in range(len(path))]
+    moved = [c + (1 if depth == mover else 0) for depth, c in enumerate(counters)]
+    return at(moved) - at(counters)
+
+
+def check_facts(records: list[Record], parameters: Parameters) -> None:
+    """Ranges by corners, pushes by moving a counter, closed by the definition's words."""
+    known = facts(records, parameters)
+
+    def closed_inside(node: LoopNode, path: list[Loop], first: int) -> bool:
+        """What closing asks of the loops inside `node`; the tested loop is path[first]."""
+        for choice in [inner for inner in node.body if isinstance(inner, ChoiceNode)]:
+            if any(loops_in(arm) for arm in choice.arms):
+                return False
+        for inner in loops_directly_in(node.body):
+            difference = subtract(inner.loop.upper, inner.loop.lower)
+            moved = [push_by_definition(path, difference, mover, parameters)
+                     for mover in range(first, len(path))]
+            if known[inner.position].difference.smallest < -inner.loop.stride:
+                return False
+            if any(push % inner.loop.stride for push in moved):
+                return False
+            if not closed_inside(inner, path + [inner.loop], first):
+                return False
+        return True
+
+    def go_down(body: Body, path: list[Loop], boxes: list[tuple[int, int]]) -> None:
+        for node in loops_directly_in(body):
+            fact: LoopFacts = known[node.position]
+            all_d = corners(subtract(node.loop.upper, node.loop.lower), boxes, parameters)
+            assert fact.difference == (min(all_d), max(all_d))
+            own_path = path + [node.loop]
+            assert fact.closed == closed_inside(node, own_path, len(path))
+            lo = min(corners(node.loop.lower, boxes, parameters))
+            hi = max(lo, max(corners(node.loop.upper, boxes, parameters)))
+            go_down(node.body, own_path, boxes + [(lo, hi)])
+
+    go_down(tree(records), [], [])
+
+
+def random_run(body: Body, indexes: list[int], parameters: Parameters, random: Random) -> int:
+    """The cycles of one run that decides by chance at every work and choice."""
+    total = 0
+    for node in body:
+        if isinstance(node, Work):
+            total += random.choice([node.least, node.most, random.randint(node.least, node.most)])
+        elif isinstance(node, ChoiceNode):
+            total += random_run(random.choice(node.arms), indexes, parameters, random)
+        else:
+            total += node.loop.start
+            for counter in range(trips.trips_of(node.loop, indexes, parameters)):
+                index = trips.index_of(node.loop, counter, indexes, parameters)
+                total += random_run(node.body, indexes + [index], parameters, random)
+                total += node.loop.step
+    return total
+
+
+def check_runs(
+    records: list[Record], parameters: Parameters, bounds: Bounds, random: Random
+) -> None:
+    """Runs lie between least and most."""
+    for _ in range(3):
+        run = random_run(tree(records), [], parameters, random)
+        assert bounds.least <= run <= bounds.most

@@ -1,0 +1,95 @@
+"""Calls.antt: the writer, the C call, the record reader and the program's text."""
+
+import antt
+from antt import Equation, inner, listed, octets, term
+from call_cases import C_CALL_CASES, READER_CASES, TEXT_CASES
+from calls import c_call, program_text
+from records import Form, Refusal
+from sheet import Part, record_at, write
+from writer_cases import (
+    CHOICE_ENTRY, END_ENTRY, LOOP_ENTRY, NEXT_ENTRY, WORK_ENTRY, WRITER_CASES, RawRecord,
+)
+
+# Entries that come often get a name; so does the form with nothing in it.
+NO_FORM = "noForm"
+ENTRY_NAMES = {
+    WORK_ENTRY: "aWork",
+    LOOP_ENTRY: "aLoop",
+    END_ENTRY: "anEnd",
+    CHOICE_ENTRY: "aChoice",
+    NEXT_ENTRY: "aNextArm",
+}
+
+
+def raw_record(entry: RawRecord) -> str:
+    """An entry written out, with the name of the empty form."""
+    return antt.raw_record(entry).replace(inner(antt.form(Form())), NO_FORM)
+
+
+def definitions() -> list[str]:
+    parts = [antt.definition(NO_FORM, antt.NAME["form type"], antt.form(Form()))]
+    for entry, name in ENTRY_NAMES.items():
+        parts.append(antt.definition(name, antt.NAME["raw type"], raw_record(entry)))
+    return parts
+
+
+def entries(given: list[RawRecord]) -> str:
+    return inner(listed([ENTRY_NAMES.get(entry) or raw_record(entry) for entry in given]))
+
+
+def writer_equations() -> list[Equation]:
+    found: list[Equation] = []
+    for case in WRITER_CASES:
+        given = [entries(case.entries), str(case.count), octets(case.buffer)]
+        result = write(case.entries, case.count, case.buffer)
+        if isinstance(result.answer, Refusal):
+            assert result.buffer == case.buffer
+            numbers = [str(number) for number in result.answer]
+            right = term("not written", *numbers, octets(result.buffer))
+        else:
+            right = term("written", str(result.answer), octets(result.buffer))
+        found.append(Equation(case.tells, term("write", *given), right))
+    return found
+
+
+def call_equations() -> list[Equation]:
+    found: list[Equation] = []
+    for case in C_CALL_CASES:
+        given = [octets(case.sheet), antt.parameters(case.parameters),
+                 str(case.budget), octets(case.area)]
+        result = c_call(case.sheet, case.parameters, case.budget, case.area)
+        right = term("called", str(result.number), octets(result.area))
+        found.append(Equation(case.tells, term("c call", *given), right))
+    return found
+
+
+def reader_equations() -> list[Equation]:
+    found: list[Equation] = []
+    for case in READER_CASES:
+        result = record_at(case.sheet, case.offset)
+        if isinstance(result, Part):
+            name = "found"
+        else:
+            name = "not found" if isinstance(result, Refusal) else "sheet end"
+        right = term(name, *[str(number) for number in result])
+        left = term("record at", octets(case.sheet), str(case.offset))
+        found.append(Equation(case.tells, left, right))
+    return found
+
+
+def text_equations() -> list[Equation]:
+    found: list[Equation] = []
+    for case in TEXT_CASES:
+        printed = antt.text(program_text(case.data))
+        found.append(Equation(case.tells, term("text", octets(case.data)), printed))
+    return found
+
+
+def calls_file(group: int) -> str:
+    parts = definitions()
+    parts += antt.grouped("writer", writer_equations(), group)
+    parts += antt.grouped("c-call", call_equations(), group)
+    parts += antt.grouped("record-reader", reader_equations(), group)
+    parts += antt.grouped("program-text", text_equations(), group)
+    comments = ["The writer, the C call, the record reader and the program's text, by cases."]
+    return antt.file_text("Calls.antt", comments, parts)

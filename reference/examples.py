@@ -1,0 +1,56 @@
+"""Writes the computed examples as antt source.
+
+    python3 examples.py FOLDER [--check] [--trips N] [--group N] [--readings FILE]
+
+writes Readings.antt, States.antt, Calls.antt and Known.antt into FOLDER, or
+with --check compares them with what stands there.
+"""
+
+import argparse
+import os
+import sys
+
+from example_calls import calls_file
+from example_readings import known_file, readings_file
+from example_states import states_file
+
+HERE = os.path.dirname(os.path.abspath(__file__))
+
+
+def main() -> None:
+    parser = argparse.ArgumentParser()
+    parser.add_argument("folder")
+    parser.add_argument("--check", action="store_true", help="compare, and write nothing")
+    parser.add_argument("--trips", type=int, default=30_000,
+                        help="leave out readings with more trips than this")
+    parser.add_argument("--group", type=int, default=20,
+                        help="equations in a theorem of Readings and Calls")
+    parser.add_argument("--readings", default=os.path.join(HERE, "readings.txt"))
+    arguments = parser.parse_args()
+    texts = {
+        "Readings.antt": readings_file(arguments.readings, arguments.trips, arguments.group),
+        "States.antt": states_file(),
+        "Calls.antt": calls_file(arguments.group),
+        "Known.antt": known_file(),
+    }
+    if arguments.check:
+        sys.exit(compare(arguments.folder, texts))
+    os.makedirs(arguments.folder, exist_ok=True)
+    for name, text in texts.items():
+        with open(os.path.join(arguments.folder, name), "w", encoding="utf-8") as file:
+            file.write(text)
+
+
+def compare(folder: str, texts: dict[str, str]) -> int:
+    """The exit status: 0 where every file holds its text."""
+    status = 0
+    for name, text in texts.items():
+        with open(os.path.join(folder, name), encoding="utf-8") as file:
+            same = file.read() == text
+        print(f"{name}: {'as reckoned' if same else 'differs'}")
+        status = status if same else 1
+    return status
+
+
+if __name__ == "__main__":
+    main()

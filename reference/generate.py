@@ -1,0 +1,191 @@
+"""Random sheets from a fixed seed: valid, damaged and hostile.
+
+    python3 generate.py SEED COUNT [SIZE]
+
+prints COUNT cases of each kind, one a line, in the form of the readings file.
+SIZE is small, middle or large.
+"""
+
+import sys
+from random import Random
+from typing import NamedTuple
+
+from calls import Figures, answer, reports
+from hostile import hostile_sheet
+from nest import Parameters
+from records import (
+    COST_LIMIT, MOST_OPEN, MOST_RECORDS,
+    Choice, End, Form, Loop, NextArm, Record, Work, encode_all,
+)
+
+
+class Size(NamedTuple):
+    """How large the valid sheets are: records, loops deep, and width of bounds."""
+
+    records: int
+    loops_deep: int
+    width: int
+
+
+SIZES = {
+    "small": Size(12, 3, 5),
+    "middle": Size(24, 4, 8),
+    "large": Size(MOST_RECORDS, 4, 40),
+}
+
+
+class Case(NamedTuple):
+    kind: str
+    sheet: bytes
+    parameters: Parameters
+    budget: int
+
+
+def cost(random: Random) -> int:
+    return random.choice([0, 0, 1, 2, random.randint(0, 30), random.randint(0, COST_LIMIT)])
+
+
+def work(random: Random) -> Work:
+    least, most = sorted((cost(random), cost(random)))
+    return Work(least, most)
+
+
+def factors(random: Random, enclosing: int, largest: int, multiple: int = 1) -> tuple[int, ...]:
+    """Factors of the enclosing indexes, each a multiple of a number; the others 0."""
+    own = [random.choice([0, random.randint(-largest, largest)]) * multiple
+           for _ in range(min(enclosing, 3))]
+    return tuple(own) + (0,) * (3 - len(own))
+
+
+def parameter_factors(random: Random) -> tuple[int, ...]:
+    if random.random() < 0.8:
+        return (0, 0, 0, 0)
+    return tuple(random.choice([0, 0, 1, -1, 2]) for _ in range(4))
+
+
+def bounds(random: Random, size: Size, enclosing: int, stride: int) -> tuple[Form, Form]:
+    """Lower and upper form; half of them are made so that the stride divides D's factors."""
+    lower = Form(random.randint(-5, 5), factors(random, enclosing, 2), parameter_factors(random))
+    if random.random() < 0.5:
+        slant = factors(random, enclosing, 2, stride)
+        upper = tuple(l + s for l, s in zip(lower.indexes, slant))
+    else:
+        upper = factors(random, enclosing, 2)
+    width = random.choice([-stride, -1, 0, random.randint(0, size.width * stride)])
+    parameters = lower.parameters if random.random() < 0.7 else parameter_factors(random)
+    return lower, Form(lower.constant + width, upper, parameters)
+
+
+def loop(random: Random, size: Size, enclosing: int) -> Loop:
+    stride = random.choice([1, 1, 1, 2, 2, 3, 4])
+    lower, upper = bounds(random, size, enclosing, stride)
+    return Loop(cost(random), cost(random), stride, lower, upper)
+
+
+def body(random: Random, size: Size, loops: int, opened: int, room: int) -> list[Record]:
+    """Records of a body that take at most `room`."""
+    records: list[Record] = []
+    while len(records) < room and random.random() < 0.8:
+        left = room - len(records)
+        kind = random.choice(["work", "loop", "loop", "loop", "choice"])
+        if kind == "loop" and loops < size.loops_deep and opened < MOST_OPEN and left >= 2:
+            inner = body(random, size, loops + 1, opened + 1, left - 2)
+            records += [loop(random, size, loops), *inner, End()]
+        elif kind == "choice" and opened < MOST_OPEN and left >= 2:
+            records += choice(random, size, loops, opened + 1, left)
+        else:
+            records.append(work(random))
+    return records
+
+
+def choice(random: Random, size: Size, loops: int, opened: int, room: int) -> list[Record]:
+    """A choice of one to three arms; half of the choices hold no loop."""
+    if random.random() < 0.5:
+        size = size._replace(loops_deep=0)
+    records: list[Record] = [Choice()]
+    records += body(random, size, loops, opened, (room - 2) // 2)
+    while len(records) + 2 <= room and random.random() < 0.6:
+        left = room - len(records) - 2
+        records += [NextArm(), *body(random, size, loops, opened, left // 2)]
+    return records + [End()]
+
+
+def valid_records(random: Random, size: Size) -> list[Record]:
+    """Records that the reader takes; the sheet is empty now and then."""
+    records = body(random, size, 0, 0, random.randint(0, size.records))
+    if random.random() < 0.9 and len(records) < size.records - 1:
+        room = size.records - len(records) - 2
+        inner = body(random, size, 1, 1, room)
+        records = [loop(random, size, 0), *inner, End(), *records]
+    return records
+
+
+def parameters(random: Random) -> Parameters:
+    largest = random.choice([0, 3, 10, 10, 32767])
+    return tuple(random.randint(-largest, largest) for _ in range(4))
+
+
+def budget(random: Random) -> int:
+    """Mostly small, so that some sheets take more visits; now and then refused."""
+    if random.random() < 0.03:
+        return random.choice([0, 1_000_001, 2 ** 32 - 1])
+    return random.choice([1, 20, 500, 500, 2000, 2000])
+
+
+def damaged_sheet(random: Random, size: Size) -> bytes:
+    """A valid sheet with one to three damages."""
+    sheet = bytearray(encode_all(valid_records(random, size)) or b"\x03")
+    for _ in range(random.randint(1, 3)):
+        at = random.randrange(len(sheet)) if sheet else 0
+        damage = random.choice(["cut", "flip", "byte", "edge", "drop", "insert", "tail"])
+        if damage == "cut":
+            del sheet[at:]
+        elif damage == "flip" and sheet:
+            sheet[at] ^= 1 << random.randrange(8)
+        elif damage == "byte" and sheet:
+            sheet[at] = random.choice([0, 1, 2, 3, 4, 5, 6, 127, 128, 255])
+        elif damage == "edge":
+            edge = random.choice([0, 1, 1000, 1001, 4095, 4096, 32767, 32768, 65535])
+            sheet[at:at + 2] = edge.to_bytes(2, "little")
+        elif damage == "drop":
+            del sheet[at:at + 1]
+        elif damage == "insert":
+            sheet.insert(at, random.randrange(6))
+        else:
+            sheet += bytes(random.choices(range(7), k=random.randint(1, 4)))
+    return bytes(sheet)
+
+
+def cases(random: Random, count: int, size: Size) -> list[Case]:
+    """So many cases of each kind."""
+    made: list[Case] = []
+    for _ in range(count):
+        sheets = {
+            "valid": encode_all(valid_records(random, size)),
+            "damaged": damaged_sheet(random, size),
+            "hostile": hostile_sheet(random),
+        }
+        for kind, sheet in sheets.items():
+            made.append(Case(kind, sheet, parameters(random), budget(random)))
+    return made
+
+
+def line(case: Case) -> str:
+    """A case with its answer, in the form of the readings file."""
+    result = answer(case.sheet, case.parameters, case.budget)
+    given = " ".join(str(n) for n in (*case.parameters, case.budget))
+    given += " " + (case.sheet.hex() or "-")
+    numbers = " ".join(str(n) for n in result)
+    if not isinstance(result, Figures):
+        return f"{given} => refused {numbers}   # {case.kind}"
+    found = reports(case.sheet, case.parameters)
+    ways = "".join("c" if report.closed else "w" for report in found) or "-"
+    ceilings = ",".join(str(report.ceiling) for report in found) or "-"
+    return f"{given} => ok {numbers} {ways} {ceilings}   # {case.kind}"
+
+
+if __name__ == "__main__":
+    seed, wanted = int(sys.argv[1]), int(sys.argv[2])
+    chosen = SIZES[sys.argv[3] if len(sys.argv) > 3 else "middle"]
+    for made_case in cases(Random(seed), wanted, chosen):
+        print(line(made_case))

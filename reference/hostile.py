@@ -1,0 +1,72 @@
+"""Sheets that are made to hurt: extreme fields, many records, deep nesting."""
+
+from random import Random
+
+from records import (
+    COST_LIMIT, MOST_LOOPS_DEEP, MOST_OPEN, STRIDE_MOST,
+    Choice, End, Form, Loop, NextArm, Record, Work, encode,
+)
+
+
+def extreme_form(random: Random, enclosing: int) -> Form:
+    """Constants and factors at their edges, with small ones among them."""
+    edges = random.choice([[0], [0, 1, -1], [0, 127, -128]])
+    constant = random.choice([0, 2047, -2048, 32767, -32768, random.randint(-9, 9)])
+    indexes = [random.choice(edges) if d < enclosing else 0 for d in range(3)]
+    return Form(constant, tuple(indexes), tuple(random.choice([0, *edges]) for _ in range(4)))
+
+
+def extreme_loop(random: Random, enclosing: int) -> Loop:
+    """Mostly loops of up to 2,048 trips; some have bounds far beyond."""
+    stride = random.choice([1, 2, 7, STRIDE_MOST])
+    start, step = [random.choice([0, COST_LIMIT]) for _ in range(2)]
+    lower = extreme_form(random, enclosing)
+    if random.random() < 0.1:
+        return Loop(start, step, stride, lower, extreme_form(random, enclosing))
+    trips = random.choice([0, 1, 2, 3, 5, 2047, 2048, random.randint(0, 2048)])
+    if random.random() < 0.02:
+        trips = 2049
+    constant = max(-32768, min(32767, lower.constant + (trips - 1) * stride))
+    upper = lower._replace(constant=constant)
+    if enclosing and random.random() < 0.3:
+        slant = lower.indexes[0] - random.choice([1, stride])
+        upper = upper._replace(indexes=(max(-128, slant),) + lower.indexes[1:])
+    return Loop(start, step, stride, lower, upper)
+
+
+def menu(opened: list[str], room: int) -> list[str]:
+    """What may follow and still leave room for the ends."""
+    kinds = ["work", "work"]
+    if opened:
+        kinds += ["end", "end"]
+    if opened and opened[-1] == "choice":
+        kinds += ["next"]
+    if len(opened) < min(MOST_OPEN, room - 1):
+        kinds += ["choice"]
+        if opened.count("loop") < MOST_LOOPS_DEEP:
+            kinds += ["loop"] * 3
+    return kinds
+
+
+def hostile_sheet(random: Random) -> bytes:
+    """Two of three are well-formed; the others take any record anywhere."""
+    careful = random.random() < 0.67
+    sheet = b""
+    opened: list[str] = []
+    for room in range(random.choice([6, 8, 16, 40, 63, 64, 65]), 0, -1):
+        kinds = menu(opened, room) if careful else ["work", "loop", "choice", "end", "next"]
+        kind = "end" if careful and len(opened) >= room else random.choice(kinds)
+        sheet += encode(hostile_record(random, kind, opened.count("loop")))
+        if kind in ("loop", "choice"):
+            opened.append(kind)
+        elif kind == "end" and opened:
+            opened.pop()
+    return sheet
+
+
+def hostile_record(random: Random, kind: str, loops: int) -> Record:
+    if kind == "work":
+        return Work(random.choice([0, COST_LIMIT]), COST_LIMIT)
+    if kind == "loop":
+        return extreme_loop(random, loops)
+    return {"end": End(), "choice": Choice(), "next": NextArm()}[kind]

@@ -1,0 +1,184 @@
+"""Reading and writing sheets: refusals 1 to 5, and 9 of the writer."""
+
+from typing import NamedTuple, Union
+
+from records import (
+    BODY_LENGTH, CHOICE, COST_LIMIT, END, KIND_OF, LOOP, MOST_LOOPS_DEEP,
+    MOST_OPEN, MOST_RECORDS, NEXT_ARM, STRIDE_LEAST, STRIDE_MOST, WORK,
+    Form, Loop, Record, Refusal, Work, decode, encode_all, record_length,
+)
+
+OPENS = (LOOP, CHOICE)
+
+
+class Part(NamedTuple):
+    """A record found at an offset: its kind, and where its body lies."""
+
+    kind: int
+    body_offset: int
+    body_length: int
+
+
+class SheetEnd(NamedTuple):
+    """There is no record at the offset: the sheet ends before it."""
+
+
+def record_at(sheet: bytes, offset: int) -> Union[Part, Refusal, SheetEnd]:
+    """The record at an offset: 2 for its kind, then 1 for its body."""
+    if offset >= len(sheet):
+        return SheetEnd()
+    kind = sheet[offset]
+    if kind not in BODY_LENGTH:
+        return Refusal(2, offset)
+    if offset + 1 + BODY_LENGTH[kind] > len(sheet):
+        return Refusal(1, offset)
+    return Part(kind, offset + 1, BODY_LENGTH[kind])
+
+
+def in_range(record: Record, open_kinds: list[int]) -> bool:
+    """Refusal 3 asks whether this is false."""
+    if isinstance(record, Work):
+        return record.least <= record.most <= COST_LIMIT
+    if isinstance(record, Loop):
+        enclosing = open_kinds.count(LOOP)
+        return (
+            record.start <= COST_LIMIT
+            and record.step <= COST_LIMIT
+            and STRIDE_LEAST <= record.stride <= STRIDE_MOST
+            and only_enclosing(record.lower, enclosing)
+            and only_enclosing(record.upper, enclosing)
+        )
+    return True
+
+
+def only_enclosing(form: Form, enclosing: int) -> bool:
+    """Whether the factors of depths that do not enclose the loop are 0."""
+    return all(factor == 0 for factor in form.indexes[enclosing:])
+
+
+def in_place(kind: int, open_kinds: list[int]) -> bool:
+    """Refusal 5 asks whether this is false."""
+    if kind == END:
+        return len(open_kinds) > 0
+    if kind == NEXT_ARM:
+        return len(open_kinds) > 0 and open_kinds[-1] == CHOICE
+    if kind == LOOP and open_kinds.count(LOOP) == MOST_LOOPS_DEEP:
+        return False
+    if kind in OPENS:
+        return len(open_kinds) < MOST_OPEN
+    return True
+
+
+def after(kind: int, open_kinds: list[int]) -> list[int]:
+    """The kinds of what is open after a record, outermost first."""
+    if kind in OPENS:
+        return open_kinds + [kind]
+    if kind == END:
+        return open_kinds[:-1]
+    return open_kinds
+
+
+def read(sheet: bytes) -> Union[list[Record], Refusal]:
+    """The records, or a refusal: 4, 2, 1, 3, 5 record by record, then open at the end."""
+    records: list[Record] = []
+    open_kinds: list[int] = []
+    offset = 0
+    while offset < len(sheet):
+        if len(records) == MOST_RECORDS:
+            return Refusal(4, offset)
+        found = record_at(sheet, offset)
+        if isinstance(found, Refusal):
+            return found
+        body_end = found.body_offset + found.body_length
+        record = decode(found.kind, sheet[found.body_offset:body_end])
+        if not in_range(record, open_kinds):
+            return Refusal(3, offset)
+        if not in_place(found.kind, open_kinds):
+            return Refusal(5, offset)
+        open_kinds = after(found.kind, open_kinds)
+        records.append(record)
+        offset = body_end
+    if open_kinds:
+        return Refusal(5, len(sheet))
+    return records
+
+
+class RawRecord(NamedTuple):
+    """What the writer takes: a kind and every field of every kind."""
+
+    kind: int = 0
+    least: int = 0
+    most: int = 0
+    start: int = 0
+    step: int = 0
+    stride: int = 0
+    lower: Form = Form()
+    upper: Form = Form()
+
+
+BLANK = RawRecord()
+
+
+def raw(record: Record) -> RawRecord:
+    """A record as the writer takes it, the fields of other kinds 0."""
+    if isinstance(record, Work):
+        return RawRecord(kind=WORK, least=record.least, most=record.most)
+    if isinstance(record, Loop):
+        return RawRecord(LOOP, 0, 0, record.start, record.step, record.stride,
+                         record.lower, record.upper)
+    return RawRecord(kind=KIND_OF[type(record)])
+
+
+def own_fields(entry: RawRecord) -> Record:
+    """The record of the entry's kind, with the fields that this kind has."""
+    if entry.kind == WORK:
+        return Work(entry.least, entry.most)
+    if entry.kind == LOOP:
+        return Loop(entry.start, entry.step, entry.stride, entry.lower, entry.upper)
+    return decode(entry.kind, b"")
+
+
+class Written(NamedTuple):
+    """The writer's answer, and the whole buffer after it."""
+
+    answer: Union[int, Refusal]
+    buffer: bytes
+
+
+def checked(entries: list[RawRecord], count: int) -> Union[list[Record], Refusal]:
+    """The records to write, or a refusal: 4, then 2, 3, 5 record by record."""
+    if count > MOST_RECORDS:
+        return Refusal(4, 0)
+    records: list[Record] = []
+    open_kinds: list[int] = []
+    offset = 0
+    for entry in padded(entries)[:count]:
+        if entry.kind not in BODY_LENGTH:
+            return Refusal(2, offset)
+        record = own_fields(entry)
+        if raw(record) != entry or not in_range(record, open_kinds):
+            return Refusal(3, offset)
+        if not in_place(entry.kind, open_kinds):
+            return Refusal(5, offset)
+        open_kinds = after(entry.kind, open_kinds)
+        records.append(record)
+        offset += record_length(record)
+    if open_kinds:
+        return Refusal(5, offset)
+    return records
+
+
+def padded(entries: list[RawRecord]) -> list[RawRecord]:
+    """The caller lends 64 entries; those not given here are blank."""
+    return entries + [BLANK] * (MOST_RECORDS - len(entries))
+
+
+def write(entries: list[RawRecord], count: int, buffer: bytes) -> Written:
+    """The sheet of the first `count` entries, laid at the buffer's start."""
+    records = checked(entries, count)
+    if isinstance(records, Refusal):
+        return Written(records, buffer)
+    sheet = encode_all(records)
+    if len(buffer) < len(sheet):
+        return Written(Refusal(9, 0), buffer)
+    return Written(len(sheet), sheet + buffer[len(sheet):])

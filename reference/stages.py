@@ -1,0 +1,195 @@
+"""The stage machine, state by state.
+
+A stage passes records, each at most once, from where the state stands to the
+start of the next visit, or to the sheet's end. Only states that stages from
+the first state reach are taken.
+"""
+
+from dataclasses import dataclass, replace
+from typing import Optional, Union
+
+from nest import LoopFacts, Parameters, ceiling_refusal, facts
+from newton import newton_sum
+from records import Choice, End, Loop, NextArm, Record, Refusal, Work
+from sheet import read
+from trips import NOTHING, Bounds, both, index_of, to_visit, trips_of
+
+
+@dataclass(frozen=True)
+class LoopFrame:
+    """An open loop.
+
+    `visited` holds the sums of the visited trips before the open one: of a
+    closed loop one each, oldest first; of a walked loop a single sum of them,
+    and nothing before the second trip. `enclosing` is the sum of what was
+    passed just around the loop, the loop's start included.
+    """
+
+    position: int
+    counter: int
+    visited: tuple[Bounds, ...]
+    enclosing: Bounds
+
+
+@dataclass(frozen=True)
+class ChoiceFrame:
+    """An open choice: the arms already passed, and the sum just around it."""
+
+    passed: Optional[Bounds]
+    enclosing: Bounds
+
+
+Frame = Union[LoopFrame, ChoiceFrame]
+
+
+@dataclass(frozen=True)
+class State:
+    """`current` is the sum of the innermost open trip or arm, or else of the sheet.
+
+    `position` counts the records passed from the sheet's start; `frames` is
+    what is open, innermost first.
+    """
+
+    position: int
+    current: Bounds
+    frames: tuple[Frame, ...]
+    visits: int
+
+
+@dataclass(frozen=True)
+class Nest:
+    """What the stages of a sheet need of it, worked out once."""
+
+    records: list[Record]
+    parameters: Parameters
+    known: dict[int, LoopFacts]
+    ends: dict[int, int]
+
+
+def first_state() -> State:
+    return State(0, NOTHING, (), 0)
+
+
+def end_positions(records: list[Record]) -> dict[int, int]:
+    """For each loop and choice, by position, the position of its end."""
+    ends: dict[int, int] = {}
+    opened: list[int] = []
+    for position, record in enumerate(records):
+        if isinstance(record, (Loop, Choice)):
+            opened.append(position)
+        elif isinstance(record, End):
+            ends[opened.pop()] = position
+    return ends
+
+
+def nest_of(sheet: bytes, parameters: Parameters) -> Union[Nest, Refusal]:
+    """The nest of a sheet that is not refused 1 to 6."""
+    records = read(sheet)
+    if isinstance(records, Refusal):
+        return records
+    refusal = ceiling_refusal(records, parameters)
+    if refusal is not None:
+        return refusal
+    return Nest(records, parameters, facts(records, parameters), end_positions(records))
+
+
+def stage(sheet: bytes, parameters: Parameters, state: State) -> State:
+    """The next state. A sheet that is refused 1 to 6 leaves the state as it is."""
+    nest = nest_of(sheet, parameters)
+    if isinstance(nest, Refusal):
+        return state
+    return next_state(nest, state)
+
+
+def at_end(nest: Nest, state: State) -> bool:
+    return state.position == len(nest.records)
+
+
+def next_state(nest: Nest, state: State) -> State:
+    """One stage: it ends where a visit begins, or at the sheet's end."""
+    visits_before = state.visits
+    while state.visits == visits_before and not at_end(nest, state):
+        state = pass_record(nest, state)
+    return state
+
+
+def pass_record(nest: Nest, state: State) -> State:
+    """Passes the record at which the state stands."""
+    record = nest.records[state.position]
+    if isinstance(record, Work):
+        return onward(state, state.current.plus(Bounds(record.least, record.most)))
+    if isinstance(record, Loop):
+        return pass_loop(nest, record, state)
+    if isinstance(record, Choice):
+        opened = ChoiceFrame(None, state.current)
+        return onward(replace(state, frames=(opened,) + state.frames), NOTHING)
+    innermost, outer = state.frames[0], state.frames[1:]
+    if isinstance(record, NextArm):
+        left = ChoiceFrame(with_arm(innermost.passed, state.current), innermost.enclosing)
+        return onward(replace(state, frames=(left,) + outer), NOTHING)
+    if isinstance(innermost, ChoiceFrame):
+        arms = with_arm(innermost.passed, state.current)
+        return onward(replace(state, frames=outer), innermost.enclosing.plus(arms))
+    return pass_loop_end(nest, innermost, state)
+
+
+def onward(state: State, current: Bounds) -> State:
+    """The state one record further, with another innermost sum."""
+    return replace(state, position=state.position + 1, current=current)
+
+
+def with_arm(passed: Optional[Bounds], arm: Bounds) -> Bounds:
+    return arm if passed is None else passed.or_arm(arm)
+
+
+def open_indexes(nest: Nest, frames: tuple[Frame, ...]) -> list[int]:
+    """The indexes of the open loops, outermost first, from their counters."""
+    indexes: list[int] = []
+    for frame in reversed(frames):
+        if isinstance(frame, LoopFrame):
+            loop = nest.records[frame.position]
+            indexes.append(index_of(loop, frame.counter, indexes, nest.parameters))
+    return indexes
+
+
+def pass_loop(nest: Nest, loop: Loop, state: State) -> State:
+    """Adds start; then opens the first trip, or goes on after the loop's end."""
+    around = state.current.plus(both(loop.start))
+    trips = trips_of(loop, open_indexes(nest, state.frames), nest.parameters)
+    if trips == 0:
+        return replace(state, position=nest.ends[state.position] + 1, current=around)
+    frame = LoopFrame(state.position, 0, (), around)
+    return open_trip(frame, state.frames, state.visits)
+
+
+def open_trip(frame: LoopFrame, outer: tuple[Frame, ...], visits: int) -> State:
+    """A trip opens with sums 0: this begins a visit."""
+    return State(frame.position + 1, NOTHING, (frame,) + outer, visits + 1)
+
+
+def pass_loop_end(nest: Nest, frame: LoopFrame, state: State) -> State:
+    """Adds one step; then opens a further trip, or leaves the loop."""
+    loop = nest.records[frame.position]
+    fact = nest.known[frame.position]
+    outer = state.frames[1:]
+    visited = frame.visited + (state.current.plus(both(loop.step)),)
+    if not fact.closed:
+        visited = (add_up(visited),)
+    trips = trips_of(loop, open_indexes(nest, outer), nest.parameters)
+    if frame.counter + 1 < to_visit(trips, fact):
+        further = replace(frame, counter=frame.counter + 1, visited=visited)
+        return open_trip(further, outer, state.visits)
+    total = newton_sum(visited, trips) if fact.closed else visited[0]
+    return onward(replace(state, frames=outer), frame.enclosing.plus(total))
+
+
+def add_up(sums: tuple[Bounds, ...]) -> Bounds:
+    return Bounds(sum(b.least for b in sums), sum(b.most for b in sums))
+
+
+def run_stages(nest: Nest, budget: int) -> State:
+    """Repeats the stage until the sheet's end, or until the visits pass the budget."""
+    state = first_state()
+    while not at_end(nest, state) and state.visits <= budget:
+        state = next_state(nest, state)
+    return state

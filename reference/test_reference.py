@@ -1,0 +1,203 @@
+"""Tests of the reckoning.
+
+    python3 test_reference.py [READINGS]
+
+READINGS is the readings file, by default readings.txt beside this file; the
+environment variable READINGS names it too. SHEETS sets the number of random
+sheets of each kind.
+"""
+
+import contextlib
+import io
+import os
+import sys
+import unittest
+from random import Random
+
+import crosscheck
+import stages
+import trips
+from calls import Called, Figures, answer, c_call, program_text, reports
+from example_calls import calls_file
+from example_readings import known_file, readings_file
+from example_states import states_file
+from generate import SIZES, cases, parameters, valid_records
+from known import MARKED, OTHERS, TRIANGLE, UNIT, ZERO, Known, form, loop, span
+from nest import ceiling_refusal
+from readings import parse_file
+from records import (
+    COST_LIMIT, END, LOOP, WORK, Choice, End, Form, NextArm, Refusal, encode_all,
+)
+from sheet import BLANK, Part, RawRecord, SheetEnd, Written, raw, read, record_at, write
+
+HERE = os.path.dirname(os.path.abspath(__file__))
+READINGS = os.environ.get("READINGS", os.path.join(HERE, "readings.txt"))
+SHEETS = int(os.environ.get("SHEETS", "600"))
+TRIPS = 3000
+
+
+def ways_of(sheet: bytes, values: tuple[int, ...]) -> str:
+    return "".join("c" if report.closed else "w" for report in reports(sheet, values))
+
+
+class KnownSheets(unittest.TestCase):
+    def check(self, case: Known) -> None:
+        with self.subTest(case.tells):
+            self.assertEqual(answer(case.sheet(), case.parameters, case.budget), case.answer)
+            if isinstance(case.answer, Figures):
+                self.assertEqual(ways_of(case.sheet(), case.parameters), case.ways)
+
+    def test_marked(self) -> None:
+        for case in MARKED:
+            self.check(case)
+
+    def test_others(self) -> None:
+        for case in OTHERS:
+            self.check(case)
+
+    def test_all_ways_agree(self) -> None:
+        for case in MARKED:
+            with self.subTest(case.tells):
+                self.assertTrue(crosscheck.check_stages(case.records, case.parameters, 10_000))
+                crosscheck.check_round_trip(case.records)
+                crosscheck.check_facts(case.records, case.parameters)
+
+    def test_stage_reads_the_sheet_itself(self) -> None:
+        sheet = encode_all(TRIANGLE)
+        state = stages.first_state()
+        for _ in range(4):
+            state = stages.stage(sheet, ZERO, state)
+        self.assertEqual((state.current, state.visits), ((45, 45), 3))
+        self.assertEqual(stages.stage(b"\x09", ZERO, state), state)
+
+
+class ReadingsFile(unittest.TestCase):
+    def test_every_line(self) -> None:
+        for reading in parse_file(READINGS):
+            with self.subTest(reading.tells):
+                result = answer(reading.sheet, reading.parameters, reading.budget)
+                self.assertEqual(result, reading.answer)
+                if isinstance(result, Figures):
+                    found = reports(reading.sheet, reading.parameters)
+                    self.assertEqual(ways_of(reading.sheet, reading.parameters), reading.ways)
+                    self.assertEqual([r.ceiling for r in found], reading.ceilings)
+
+
+class RecordReader(unittest.TestCase):
+    def test_parts(self) -> None:
+        sheet = encode_all(TRIANGLE)
+        self.assertEqual(record_at(sheet, 0), Part(LOOP, 1, 24))
+        self.assertEqual(record_at(sheet, 50), Part(WORK, 51, 4))
+        self.assertEqual(record_at(sheet, 56), Part(END, 57, 0))
+        self.assertEqual(record_at(sheet, 57), SheetEnd())
+        self.assertEqual(record_at(sheet, 1), Refusal(2, 1))
+        self.assertEqual(record_at(sheet[:54], 50), Refusal(1, 50))
+
+
+class Writer(unittest.TestCase):
+    def refused(self, entries: list[RawRecord], number: int, place: int) -> None:
+        result = write(entries, len(entries), b"\xaa" * 60)
+        self.assertEqual(result, Written(Refusal(number, place), b"\xaa" * 60))
+
+    def test_refusals(self) -> None:
+        work, end = raw(UNIT), raw(End())
+        self.refused([work] * 65, 4, 0)
+        self.refused([work, BLANK], 2, 5)
+        self.refused([work, work._replace(most=COST_LIMIT + 1)], 3, 5)
+        self.refused([work, end._replace(least=1)], 3, 5)
+        self.refused([end], 5, 0)
+        self.refused([raw(Choice()), work], 5, 6)
+        self.refused([raw(span(0, 1)), raw(NextArm())], 5, 25)
+        self.refused([work] * 13, 9, 0)
+
+    def test_foreign_fields(self) -> None:
+        values = [("least", 1), ("most", 1), ("start", 1), ("step", 1), ("stride", 1),
+                  ("lower", Form(1)), ("upper", form(p=(0, 0, 0, 1)))]
+        own = {1: {"least", "most"}, 2: {"start", "step", "stride", "lower", "upper"}}
+        for kind in range(1, 6):
+            for name, value in values:
+                entry = RawRecord(kind=kind)._replace(**{name: value})
+                result = write([raw(Choice()), entry], 2, bytes(40)).answer
+                if name not in own.get(kind, set()):
+                    self.assertEqual(result, Refusal(3, 1), (kind, name))
+
+
+class Calls(unittest.TestCase):
+    def test_area(self) -> None:
+        sheet = encode_all(TRIANGLE)
+        figures = b"".join(n.to_bytes(8, "little") for n in (45, 45, 3))
+        self.assertEqual(c_call(sheet, ZERO, 9, b"\xaa" * 26), Called(0, figures + b"\xaa" * 2))
+        self.assertEqual(c_call(sheet, ZERO, 0, b"\xaa" * 23), Called(9, b"\xaa" * 23))
+        self.assertEqual(c_call(sheet, ZERO, 0, b"\xaa" * 24), Called(7, b"\xaa" * 24))
+        self.assertEqual(c_call(sheet, ZERO, 2, b"\xaa" * 24), Called(8, b"\xaa" * 24))
+
+    def test_text(self) -> None:
+        header = bytes(8) + (100).to_bytes(4, "little")
+        expected = (b"best 45 worst 45 visits 3\n"
+                    b"loop 0 closed ceiling 10\nloop 25 closed ceiling 9\n")
+        self.assertEqual(program_text(header + encode_all(TRIANGLE)), expected)
+        self.assertEqual(program_text(header), b"best 0 worst 0 visits 0\n")
+        self.assertEqual(program_text(header[:11]), b"refused 1 at 0\n")
+        self.assertEqual(program_text(b""), b"refused 1 at 0\n")
+
+    def test_text_of_long_input(self) -> None:
+        header = bytes(8) + (100).to_bytes(4, "little")
+        longest = encode_all([loop(Form(), Form(-1)), End()] * 32)
+        largest = encode_all([loop(Form(), Form(-1))] * 64)
+        for sheet in (longest + bytes(2000), largest + b"\x03" * 70):
+            self.assertEqual(program_text(header + sheet), program_text((header + sheet)[:1613]))
+
+
+class Examples(unittest.TestCase):
+    """The emitted theorems have one proof for each equation."""
+
+    def test_counts(self) -> None:
+        with contextlib.redirect_stderr(io.StringIO()):
+            readings_text = readings_file(READINGS, 100, 20)
+        for text in (readings_text, known_file(), states_file(), calls_file(20)):
+            proofs = text.count("(refl") + text.count(", refl") + text.count("= refl")
+            imported = text.count("_≡_, refl")
+            self.assertEqual(proofs - imported, text.count(" ≡ "))
+            self.assertEqual(text.count("("), text.count(")"))
+
+
+class RandomSheets(unittest.TestCase):
+    def test_valid(self) -> None:
+        for name, size in SIZES.items():
+            random = Random(f"valid {name}")
+            gone_over = 0
+            for _ in range(SHEETS):
+                records, values = valid_records(random, size), parameters(random)
+                crosscheck.check_round_trip(records)
+                crosscheck.check_facts(records, values)
+                if ceiling_refusal(records, values) is None:
+                    crosscheck.check_ceilings(records, values, random)
+                    gone_over += crosscheck.check_stages(records, values, TRIPS)
+            self.assertGreater(gone_over, SHEETS // 4)
+
+    def test_runs(self) -> None:
+        random = Random("runs")
+        for _ in range(SHEETS):
+            records, values = valid_records(random, SIZES["small"]), parameters(random)
+            try:
+                bounds = trips.time(records, values, 300)
+            except trips.TooMany:
+                continue
+            crosscheck.check_runs(records, values, bounds, random)
+
+    def test_damaged_and_hostile(self) -> None:
+        for case in cases(Random("damaged"), SHEETS, SIZES["small"]):
+            records = read(case.sheet)
+            if isinstance(records, Refusal):
+                self.assertEqual(answer(case.sheet, case.parameters, 500), records)
+                continue
+            self.assertEqual(encode_all(records), case.sheet)
+            crosscheck.check_facts(records, case.parameters)
+            if ceiling_refusal(records, case.parameters) is None:
+                crosscheck.check_stages(records, case.parameters, 300)
+
+
+if __name__ == "__main__":
+    if len(sys.argv) == 2:
+        READINGS = sys.argv.pop()
+    unittest.main()

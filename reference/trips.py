@@ -1,0 +1,137 @@
+"""The trip by trip reckoning: times by going over every trip, visits by their definition."""
+
+from typing import NamedTuple
+
+from nest import LoopFacts, Parameters, facts, subtract, trips_for, value
+from records import Loop, Record, Work
+from tree import Body, ChoiceNode, LoopNode, tree
+
+
+class Bounds(NamedTuple):
+    """Least and most cycles."""
+
+    least: int
+    most: int
+
+    def plus(self, other: "Bounds") -> "Bounds":
+        return Bounds(self.least + other.least, self.most + other.most)
+
+    def or_arm(self, other: "Bounds") -> "Bounds":
+        """The smallest least and the largest most."""
+        return Bounds(min(self.least, other.least), max(self.most, other.most))
+
+
+NOTHING = Bounds(0, 0)
+
+
+def both(cycles: int) -> Bounds:
+    return Bounds(cycles, cycles)
+
+
+class TooMany(Exception):
+    """More trips, or more visits, than the reckoning was allowed."""
+
+
+class Meter:
+    """Counts up to a limit."""
+
+    def __init__(self, limit: int) -> None:
+        self.count = 0
+        self.limit = limit
+
+    def add_one(self) -> None:
+        self.count += 1
+        if self.count > self.limit:
+            raise TooMany
+
+
+def trips_of(loop: Loop, indexes: list[int], parameters: Parameters) -> int:
+    """The number of trips of a loop at the indexes around it."""
+    difference = subtract(loop.upper, loop.lower)
+    return trips_for(value(difference, indexes, parameters), loop.stride)
+
+
+def index_of(loop: Loop, counter: int, indexes: list[int], parameters: Parameters) -> int:
+    """The loop's index in the trip with the given counter; the first is 0."""
+    return value(loop.lower, indexes, parameters) + counter * loop.stride
+
+
+def body_time(body: Body, indexes: list[int], parameters: Parameters, meter: Meter) -> Bounds:
+    """What follows one another adds up."""
+    total = NOTHING
+    for node in body:
+        if isinstance(node, Work):
+            total = total.plus(Bounds(node.least, node.most))
+        elif isinstance(node, LoopNode):
+            total = total.plus(loop_time(node, indexes, parameters, meter))
+        else:
+            total = total.plus(choice_time(node, indexes, parameters, meter))
+    return total
+
+
+def choice_time(
+    choice: ChoiceNode, indexes: list[int], parameters: Parameters, meter: Meter
+) -> Bounds:
+    """The smallest least and the largest most of the arms."""
+    arms = [body_time(arm, indexes, parameters, meter) for arm in choice.arms]
+    total = arms[0]
+    for arm in arms[1:]:
+        total = total.or_arm(arm)
+    return total
+
+
+def loop_time(node: LoopNode, indexes: list[int], parameters: Parameters, meter: Meter) -> Bounds:
+    """Start, plus for each trip the body and one step."""
+    total = both(node.loop.start)
+    for counter in range(trips_of(node.loop, indexes, parameters)):
+        meter.add_one()
+        index = index_of(node.loop, counter, indexes, parameters)
+        total = total.plus(body_time(node.body, indexes + [index], parameters, meter))
+        total = total.plus(both(node.loop.step))
+    return total
+
+
+def time(records: list[Record], parameters: Parameters, limit: int) -> Bounds:
+    """Least and most of a sheet, trip by trip; TooMany if it takes more trips than `limit`."""
+    return body_time(tree(records), [], parameters, Meter(limit))
+
+
+def trips(records: list[Record], parameters: Parameters, limit: int) -> int:
+    """The trips that the reckoning above goes over, those of inner loops included."""
+    meter = Meter(limit)
+    body_time(tree(records), [], parameters, meter)
+    return meter.count
+
+
+def to_visit(trip_count: int, fact: LoopFacts) -> int:
+    """How many trips of an entry are visited."""
+    if fact.closed:
+        return min(trip_count, fact.height + 1)
+    return trip_count
+
+
+def visit_body(
+    body: Body,
+    indexes: list[int],
+    parameters: Parameters,
+    known: dict[int, LoopFacts],
+    meter: Meter,
+) -> None:
+    """Counts the visits of a body: those of its loops, each entered once; all arms count."""
+    for node in body:
+        if isinstance(node, ChoiceNode):
+            for arm in node.arms:
+                visit_body(arm, indexes, parameters, known, meter)
+        elif isinstance(node, LoopNode):
+            trip_count = trips_of(node.loop, indexes, parameters)
+            for counter in range(to_visit(trip_count, known[node.position])):
+                meter.add_one()
+                index = index_of(node.loop, counter, indexes, parameters)
+                visit_body(node.body, indexes + [index], parameters, known, meter)
+
+
+def visits(records: list[Record], parameters: Parameters, limit: int) -> int:
+    """The sheet's visits by their definition; TooMany if there are more than `limit`."""
+    meter = Meter(limit)
+    visit_body(tree(records), [], parameters, facts(records, parameters), meter)
+    return meter.count
