@@ -53,24 +53,22 @@ NAME = {
 }
 
 # Lines at the top of each file, after its own comment.
-LIST = "use mathlib.Core.List.{List, [], _∷_}"
+LIST = "use mathlib.Core.List.{[], _∷_}"
 INTEGER = "use lib.IntN.{pos, negsuc}"
 SPECS = "use Rattle.meaning.specs."
 PROOFS = "use Rattle.meaning.proofs."
 PATH = "use mathlib.Core.Path.{_≡_, refl}"
 COMPUTES = PROOFS + "Computes.{computes}"
 ANSWER = [
-    PATH, LIST, INTEGER,
-    SPECS + "Reader.{ok, refused}",
     SPECS + "Answer.{figures, answer}",
     PROOFS + "Vocabulary.{hex, zeroParameters, closedLoop, walkedLoop, sheetReportsOf}",
     COMPUTES,
 ]
 IMPORTS = {
-    "Readings.antt": ANSWER,
-    "Known.antt": ANSWER,
+    "Readings.antt": [PATH, LIST, INTEGER, SPECS + "Reader.{ok, refused}", *ANSWER],
+    "Known.antt": [PATH, LIST, "use lib.IntN.{pos}", SPECS + "Reader.{ok}", *ANSWER],
     "States.antt": [
-        PATH, LIST, "use mathlib.Core.Option.{none, some}", INTEGER, "use lib.ListN.{drop}",
+        PATH, "use mathlib.Core.List.{List, [], _∷_}", "use mathlib.Core.Option.{none, some}", INTEGER, "use lib.ListN.{drop}",
         SPECS + "Record.{Loop, Record, workRecord, loopRecord, endRecord, choiceRecord, nextArmRecord}",
         SPECS + "Time.{bounds}",
         SPECS + "Stage.{loopFrame, choiceFrame, state}",

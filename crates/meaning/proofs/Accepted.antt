@@ -2,7 +2,7 @@
 use mathlib.Core.Path.{_≡_, refl, sym, ap, _∙_, subst}
 use mathlib.Core.List.{List, [], _∷_, _++_, append-assoc}
 use mathlib.Core.Bool.{Bool, true, false, cond, _&&_}
-use mathlib.Core.Option.{Option, none, some}
+use mathlib.Core.Option.{none, some}
 use Prim.Native.Nat.{ℕ, zero, suc, _+_, _≤_}
 use native.Mathlib.Omega.{arith}
 use lib.ListN.{length, take, drop}
@@ -11,7 +11,7 @@ use Rattle.meaning.specs.Limits.{recordLimit, depthLimit, openLimit, cos
 use Rattle.meaning.specs.Number.{hasPattern}
 use Rattle.meaning.specs.Form.{Form, allZero, factorsFit, formInRange}
 use Rattle.meaning.specs.Record.{Kind, workKind, loopKind, endKind, choiceKind, nextArmKind, kindOf, bodyLength, Loop, Record, workRecord, loopRecord, endRecord, choiceRecord, nextArmRecord, kind, recordLength, decodeRecord, Open, openLoop, openChoice, loopDepth, fieldsInRange, openAfter}
-use Rattle.meaning.specs.Reader.{Result, ok, require, orRefuse, andThen, Accepted, accept, readRecord, endOfSheet, readFrom, read}
+use Rattle.meaning.specs.Reader.{Result, ok, orRefuse, Accepted, accept, readRecord, endOfSheet, readFrom, read}
 use Rattle.meaning.specs.Tree.{Block, Arms, work, loop, choice, lastArm, arm, Segments, final, beforeEnd, beforeNextArm, onFirst, takeBody, takeArms, segments, firstSegment, tree, records, armsRecords, height, armsHeight}
 use Rattle.meaning.proofs.Logic.{T-and, refused-is-not-ok, andThen-ok, require-ok, orRefuse-ok, andThen-yes, require-yes, orRefuse-yes}
 use Rattle.meaning.proofs.Sound.{WorkSound, LoopSound, Sound, ArmsSound}

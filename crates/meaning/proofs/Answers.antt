@@ -8,7 +8,7 @@ use Prim.Native.Nat.{ℕ, _^_, _≤_, _<_}
 use native.Mathlib.Decide.{decLe}
 use native.Mathlib.Omega.{arith}
 use lib.IntN.{ℤ}
-use lib.Dec.{leb, leb→le}
+use lib.Dec.{leb}
 use lib.ListN.{length, length-drop, drop}
 use Rattle.meaning.specs.Limits.{budgetLimit, areaLength}
 use Rattle.meaning.specs.Number.{littleEndian}
@@ -19,8 +19,8 @@ use Rattle.meaning.specs.Visits.{visits}
 use Rattle.meaning.specs.Report.{firstOverCeiling}
 use Rattle.meaning.specs.Answer.{Figures, figures, sheetReports, checkCeilings, accepted, figuresOf, checkVisits, answer}
 use Rattle.meaning.specs.CCall.{Called, areaBytes, storeAnswer, cCall, figuresIn}
-use Rattle.meaning.proofs.Logic.{true→T, leb-yes, refused-is-not-ok, andThen-ok, leb-no, ok-injective, refused-number}
-use Rattle.meaning.proofs.Refusals.{ReaderRefusal, read-refused}
+use Rattle.meaning.proofs.Logic.{leb-yes, refused-is-not-ok, andThen-ok, leb-no, ok-injective, refused-number}
+use Rattle.meaning.proofs.Refusals.{read-refused}
 use Rattle.meaning.proofs.Number.{unsigned-littleEndian}
 
 -- ---- the sheet

@@ -1,6 +1,6 @@
 -- The writer, the C call, the record reader and the program's text, by cases.
 use mathlib.Core.Path.{_≡_, refl}
-use mathlib.Core.List.{List, [], _∷_}
+use mathlib.Core.List.{[], _∷_}
 use lib.IntN.{pos, negsuc}
 use Rattle.meaning.specs.Form.{Form}
 use Rattle.meaning.specs.Reader.{refused, headAt}

@@ -27,7 +27,7 @@ use Rattle.meaning.specs.Closed.{pushOwn, pushInner, strideDivides, clos
 use Rattle.meaning.specs.Report.{allClosed, loopReports}
 use Rattle.meaning.specs.ClosedSum.{closedSum}
 use Rattle.meaning.proofs.Sound.{Sound}
-use Rattle.meaning.proofs.Trips.{Inside, TripsInside, firstSums, tripTime, ClosedSumsExact}
+use Rattle.meaning.proofs.Trips.{Inside, firstSums, tripTime}
 use Rattle.meaning.proofs.Ranges.{inside-length, value-inside, trips-inside}
 use Rattle.meaning.proofs.Pushes.{Follows, follows-fixed, follows-inside, value-follows, strideDivides-moves, indexesInside-trip, insideAt}
 use Rattle.meaning.proofs.Closable.{closable-loop, closable-choice, closable-closed}
@@ -94,7 +94,9 @@ module _ (ps : List ℤ) where
       let d : ℤ = value ps (difference l) (indexesAt counters) in
       let quotient = strideDivides-moves l depth pushes divided steps in
       let e = value-follows ps indexesAt pushes depth follows (difference l) counters steps ∙ ap (λ (z : ℤ). d +ℤ z) (quotient .1) in
-      ap (λ (z : ℤ). sucℤ (floorDivide z (l .stride))) e ∙ ap sucℤ (floor-shift (l .stride) moves d (quotient .0)) ∙ sym (sucℤ-+ℤ (floorDivide d (l .stride)) (quotient .0))
+      ap (λ (z : ℤ). sucℤ (floorDivide z (l .stride))) e
+      ∙ ap sucℤ (floor-shift (l .stride) moves d (quotient .0))
+      ∙ sym (sucℤ-+ℤ (floorDivide d (l .stride)) (quotient .0))
 
   -- ---- amounts that are polynomials
 
@@ -114,13 +116,17 @@ module _ (ps : List ℤ) where
 
   polynomial-le : {degree larger : ℕ} {indexesAt : List ℤ → List ℤ} {ranges : List Range} {amount : List ℤ → ℕ} → degree ≤ larger →
       Polynomial degree indexesAt ranges amount → Polynomial larger indexesAt ranges amount
-  polynomial-le {degree} {larger} h p = record { polynomial = p .polynomial; degreeAtMost = degree-le _⊞_ degree larger (p .polynomial) h (p .degreeAtMost); agrees = p .agrees }
+  polynomial-le {degree} {larger} h p = record {
+    polynomial = p .polynomial;
+    degreeAtMost = degree-le _⊞_ degree larger (p .polynomial) h (p .degreeAtMost);
+    agrees = p .agrees;
+  }
 
   -- an executed trip's amount, from the polynomial inside the loop
   trip-agrees : {degree : ℕ} {amount : List ℤ → ℕ} (l : Loop) (ranges : List Range) (indexesAt : List ℤ → List ℤ)
       (p : Polynomial degree (insideAt ps l indexesAt) (innerRanges ps l ranges) amount) (counters : List ℤ) → Inside (indexesAt counters) ranges →
       (trip : ℕ) → trip < trips ps l (indexesAt counters) → pos (amount (innerIndexes ps l (indexesAt counters) trip)) ≡ p .polynomial (pos trip ∷ counters)
-  unfolding TripsInside firstOf restOf
+  unfolding firstOf restOf
   trip-agrees {amount = amount} l ranges indexesAt p counters inside trip made =
       let e = indexesInside-trip ps l (indexesAt counters) trip in
       let within = trips-inside ps l ranges (indexesAt counters) trip inside made in
@@ -194,7 +200,8 @@ module _ (ps : List ℤ) where
     polynomial-time (loop l body rest) sound ranges pushes indexesAt follows t =
         let tests = closable-loop ps l body rest ranges pushes t in
         let inner : List (List ℤ) = pushOwn l (length ranges) ∷ map (pushInner l) pushes in
-        let inside = polynomial-time body (sound .1) (innerRanges ps l ranges) inner (insideAt ps l indexesAt) (follows-loop l ranges pushes indexesAt follows) (tests .bodyClosable) in
+        let followsInner = follows-loop l ranges pushes indexesAt follows in
+        let inside = polynomial-time body (sound .1) (innerRanges ps l ranges) inner (insideAt ps l indexesAt) followsInner (tests .bodyClosable) in
         let trip = polynomial-⊕ inside (polynomial-fixed (exactly (l .step))) in
         let all = polynomial-loop l (sound .0 .moves) body ranges pushes indexesAt follows (tests .smallest) (tests .divided) trip in
         let after = polynomial-time rest (sound .2) ranges pushes indexesAt follows (tests .restClosable) in
@@ -231,9 +238,12 @@ module _ (ps : List ℤ) where
   -- ---- closed loops
 
   -- a closed loop's sum by Newton's differences over its visited trips is the sum trip by trip
-  pub closed-sums-exact : ClosedSumsExact ps
-  unfolding ClosedSumsExact closedSum
-  closed-sums-exact l body ranges indexes moves sound inside t =
+  pub closed-sums-exact : (l : Loop) (body : Block) (ranges : List Range) (indexes : List ℤ) → Sound body → Inside indexes ranges →
+      T (closed ps l body ranges) →
+      closedSum (trips ps l indexes) (firstSums (min (trips ps l indexes) (suc (height body))) (tripTime ps l body indexes))
+      ≡ sumOver (trips ps l indexes) (tripTime ps l body indexes)
+  unfolding closedSum
+  closed-sums-exact l body ranges indexes sound inside t =
       let least = closed-figure-exact (λ b. b .least) (λ a b. refl) (λ n. refl) l body sound ranges indexes inside t in
       let most = closed-figure-exact (λ b. b .most) (λ a b. refl) (λ n. refl) l body sound ranges indexes inside t in
       λ i. bounds (atLeastZero (least i)) (atLeastZero (most i))

@@ -1,28 +1,26 @@
 -- Demand 3, whole: of every answer with figures, all that document 00 asks; and the stages of every sheet that is not refused 1 to 6.
 use mathlib.Core.Path.{_≡_, refl, sym, ap, _∙_, subst}
 use mathlib.Core.List.{List, []}
-use Prim.Native.Nat.{ℕ, suc, _*_, _≤_, _<_}
+use Prim.Native.Nat.{ℕ, suc, _<_}
 use native.Mathlib.Omega.{arith}
 use lib.IntN.{ℤ}
 use lib.ListN.{length}
 use mathlib.Core.Option.{none}
-use Rattle.meaning.specs.Limits.{budgetLimit}
 use Rattle.meaning.specs.Record.{Record}
-use Rattle.meaning.specs.Reader.{Result, ok, refused, read}
-use Rattle.meaning.specs.Tree.{tree, records}
-use Rattle.meaning.specs.Time.{Bounds, bounds, time}
+use Rattle.meaning.specs.Reader.{ok, refused, read}
+use Rattle.meaning.specs.Tree.{tree}
 use Rattle.meaning.specs.Visits.{visits}
 use Rattle.meaning.specs.Report.{firstOverCeiling}
-use Rattle.meaning.specs.Stage.{State, firstState, stages, visitsBegun}
-use Rattle.meaning.specs.Answer.{Figures, figures, figuresOf, sheetReports, accepted, answer}
+use Rattle.meaning.specs.Stage.{State, firstState, stages}
+use Rattle.meaning.specs.Answer.{Figures, figuresOf, sheetReports, accepted, answer}
 use Rattle.meaning.specs.Demand.{StagesReach, Demand3}
-use Rattle.meaning.proofs.Accepted.{Formed, read-formed, read-short}
+use Rattle.meaning.proofs.Accepted.{read-formed, read-short}
 use Rattle.meaning.proofs.Runs.{run-between, run-reached}
 use Rattle.meaning.proofs.Reports.{report-count}
 use Rattle.meaning.proofs.FewVisits.{visits-few}
 use Rattle.meaning.proofs.SmallFigures.{figures-small}
 use Rattle.meaning.proofs.Stages.{stages-reach}
-use Rattle.meaning.proofs.Answers.{BudgetInRange, Answered, answer-ok, accepted-ok, answer-spent}
+use Rattle.meaning.proofs.Answers.{BudgetInRange, answer-ok, accepted-ok, answer-spent}
 
 module _ (ps : List ℤ) where
   -- the stages of a sheet that the reader accepts

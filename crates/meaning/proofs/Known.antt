@@ -1,8 +1,8 @@
 -- The ten sheets with known figures that are to be proved, from raw bytes.
 use mathlib.Core.Path.{_≡_, refl}
-use mathlib.Core.List.{List, [], _∷_}
-use lib.IntN.{pos, negsuc}
-use Rattle.meaning.specs.Reader.{ok, refused}
+use mathlib.Core.List.{[], _∷_}
+use lib.IntN.{pos}
+use Rattle.meaning.specs.Reader.{ok}
 use Rattle.meaning.specs.Answer.{figures, answer}
 use Rattle.meaning.proofs.Vocabulary.{hex, zeroParameters, closedLoop, walkedLoop, sheetReportsOf}
 use Rattle.meaning.proofs.Computes.{computes}

@@ -1,5 +1,4 @@
 pub mod Logic
-pub mod Integers
 pub mod Sound
 pub mod Trips
 pub mod Number

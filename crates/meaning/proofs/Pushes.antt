@@ -1,7 +1,7 @@
 -- Pushes: what a loop's next trip adds to the indexes inside it and to forms over them, and moves of several counters at once.
 use mathlib.Core.Path.{_≡_, refl, sym, ap, ap₂, _∙_}
 use mathlib.Core.List.{List, [], _∷_, _++_, map}
-use Prim.Native.Nat.{ℕ, zero, suc, _+_, _*_}
+use Prim.Native.Nat.{ℕ, zero, suc, _+_}
 use native.Mathlib.Nat.{one-mul}
 use native.Mathlib.Numerals.{add-one}
 use native.Mathlib.Omega.{arith}
@@ -9,7 +9,8 @@ use lib.IntN.{ℤ, pos, _+ℤ_, _*ℤ_, +ℤ-assoc, +ℤ-idl, +ℤ-idr, *ℤ-zer
 use lib.Dec.{T}
 use lib.ListN.{length, replicate, length-append, length-replicate, replicate-append-replicate, length-map}
 use Rattle.whole.specs.Integer.{divides}
-use Rattle.whole.specs.Degree.{_⊞_, firstOf, restOf}
+use Rattle.whole.specs.Degree.{_⊞_, firstOf, restOf, times}
+use Rattle.whole.proofs.Counters.{times-append-one, times-zeros, dot-times, length-⊞, ⊞-append-one, ⊞-zeros}
 use Rattle.whole.proofs.Ring.{sort-sums, +ℤ-*ℤ, *ℤ-+ℤ, *ℤ-assoc, times-one}
 use Rattle.whole.proofs.Dot.{dot-⊞, dot-zeros}
 use Rattle.whole.proofs.Floor.{divides-quotient}
@@ -19,7 +20,6 @@ use Rattle.meaning.specs.Record.{Loop}
 use Rattle.meaning.specs.Time.{difference, indexAt, innerIndexes}
 use Rattle.meaning.specs.Closed.{push, pushOwn, pushInner, strideDivides}
 use Rattle.meaning.proofs.Logic.{T-and}
-use Rattle.meaning.proofs.Integers.{times, times-append-one, times-zeros, dot-times, length-⊞, ⊞-append-one, ⊞-zeros}
 
 -- ---- a push is linear in the moves of the indexes
 

@@ -7,17 +7,16 @@ use Prim.Native.Nat.{ℕ, zero, suc, _*_, _≤_, _<_}
 use lib.IntN.{ℤ, pos, negsuc, negℤ, _+ℤ_, _-ℤ_, _*ℤ_, negℤ-+ℤ}
 use lib.Signed.{_≤ℤ_, ≤ℤ-refl}
 use lib.ListN.{length}
-use Rattle.whole.specs.Integer.{dot, larger, subtractLists}
+use Rattle.whole.specs.Integer.{dot, larger}
 use Rattle.whole.proofs.Ring.{sort-sums}
-use Rattle.whole.proofs.Order.{AtMost, AtMost-refl, AtMost-trans, AtMost-add, AtMost-neg, AtMost-scale-pos, AtMost-scale-negsuc, larger-left, larger-right}
+use Rattle.whole.proofs.Order.{AtMost, AtMost-refl, AtMost-trans, AtMost-add, AtMost-neg, AtMost-scale-pos, AtMost-scale-negsuc, larger-left, larger-right, ≤ℤ→AtMost, AtMost→≤ℤ, AtMost-subtract, AtMost-restore}
 use Rattle.whole.proofs.Floor.{counted-at-most, at-most-counted, count-monotone}
 use Rattle.whole.proofs.Dot.{dot-subtract}
 use Rattle.meaning.specs.Form.{Form, value, subtract}
 use Rattle.meaning.specs.Record.{Loop}
 use Rattle.meaning.specs.Time.{difference, tripCount, trips, indexAt, innerIndexes}
 use Rattle.meaning.specs.Range.{Range, exactRange, scale, addRange, dotRange, range, indexRange, innerRanges, differenceRange, ceiling}
-use Rattle.meaning.proofs.Trips.{Inside, TripsInside}
-use Rattle.meaning.proofs.Integers.{≤ℤ→AtMost, AtMost→≤ℤ, AtMost-subtract, AtMost-restore}
+use Rattle.meaning.proofs.Trips.{Inside}
 
 -- ---- sums of products lie in their ranges
 
@@ -37,7 +36,7 @@ add-within : (x y : ℤ) (r s : Range) → Within x r → Within y s → Within 
 unfolding addRange
 add-within x y r s v w = record { low = AtMost-add (r .lo) x (s .lo) y (v .low) (w .low); high = AtMost-add x (r .hi) y (s .hi) (v .high) (w .high) }
 
--- every difference of two numbers
+-- where the differences of the numbers of two ranges lie
 abbrev pub subtractRange : Range → Range → Range
 subtractRange r s = record { lo = r .lo -ℤ s .hi; hi = r .hi -ℤ s .lo }
 
@@ -187,7 +186,8 @@ module _ (ps : List ℤ) where
       AtMost-restore (value ps (l .lower) indexes) (pos (trip * l .stride)) (value ps (l .upper) indexes) (rw (value-difference l indexes) at within)
 
   -- the rule in the loop's own terms: a trip is made exactly where its index is at most the upper form's value
-  pub trip-made-exactly : (l : Loop) (indexes : List ℤ) (trip : ℕ) → 1 ≤ l .stride → (trip < trips ps l indexes) ↔ (indexAt ps l indexes trip ≤ℤ value ps (l .upper) indexes)
+  pub trip-made-exactly : (l : Loop) (indexes : List ℤ) (trip : ℕ) → 1 ≤ l .stride →
+      (trip < trips ps l indexes) ↔ (indexAt ps l indexes trip ≤ℤ value ps (l .upper) indexes)
   unfolding indexAt trips tripCount
   trip-made-exactly l indexes trip moves = (λ made. AtMost→≤ℤ (index-at-most-upper l indexes trip made), λ h. made (≤ℤ→AtMost h))
     where
@@ -212,8 +212,9 @@ module _ (ps : List ℤ) where
       }
 
   -- executed indexes lie in their ranges
-  pub trips-inside : TripsInside ps
-  unfolding TripsInside innerIndexes innerRanges
+  pub trips-inside : (l : Loop) (ranges : List Range) (indexes : List ℤ) (trip : ℕ) → Inside indexes ranges → trip < trips ps l indexes →
+      Inside (innerIndexes ps l indexes trip) (innerRanges ps l ranges)
+  unfolding innerIndexes innerRanges
   trips-inside l ranges indexes trip inside made =
       inside-append-one indexes ranges (indexAt ps l indexes trip) (indexRange ps l ranges) inside (index-within l ranges indexes trip inside made)
 

@@ -2,7 +2,7 @@
 -- Left out, over 30000 trips: the largest figure: 4 deep, 2,048 trips each, 56 works
 -- Left out, over 30000 trips: largest Newton terms: j, k, l each 0..2047-i
 use mathlib.Core.Path.{_≡_, refl}
-use mathlib.Core.List.{List, [], _∷_}
+use mathlib.Core.List.{[], _∷_}
 use lib.IntN.{pos, negsuc}
 use Rattle.meaning.specs.Reader.{ok, refused}
 use Rattle.meaning.specs.Answer.{figures, answer}

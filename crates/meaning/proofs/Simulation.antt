@@ -17,8 +17,10 @@ use Rattle.meaning.specs.ClosedSum.{closedSum, addAll, loopSum, addTrip}
 use Rattle.meaning.specs.Stage.{Frame, loopFrame, choiceFrame, State, state, afterEnd, addArm, Step, going, beginsVisit, indexesOf, rangesOf, enterLoop, endTrip, passRecord, pass}
 use Rattle.meaning.proofs.Logic.{ltb-yes, ltb-no, bounds-equal}
 use Rattle.meaning.proofs.Sound.{Sound, ArmsSound}
-use Rattle.meaning.proofs.Trips.{Inside, firstSums, tripTime, tripVisits, TripsInside, ClosedSumsExact}
+use Rattle.meaning.proofs.Trips.{Inside, firstSums, tripTime, tripVisits}
 use Rattle.meaning.proofs.Trees.{afterEnd-records, tree-before-end}
+use Rattle.meaning.proofs.Ranges.{trips-inside}
+use Rattle.meaning.proofs.ClosedLoops.{closed-sums-exact}
 use Rattle.meaning.proofs.Leads.{Leads, leads-equal, leads-same, leads-then, leads-going, leads-then-going, leads-visit}
 
 ⊕-assoc : (a b c : Bounds) → a ⊕ b ⊕ c ≡ a ⊕ (b ⊕ c)
@@ -66,18 +68,17 @@ module _ (ps : List ℤ) where
       go false = omega arith
 
   -- the sum of a loop's trips from the visited ones that are kept
-  module _ (exact : ClosedSumsExact ps) (l : Loop) (b : Block) (ranges : List Range) (indexes : List ℤ)
-      (moves : 1 ≤ l .stride) (sound : Sound b) (inside : Inside indexes ranges) where
+  module _ (l : Loop) (b : Block) (ranges : List Range) (indexes : List ℤ) (sound : Sound b) (inside : Inside indexes ranges) where
     loopSum-exact : (isClosed : Bool) → closed ps l b ranges ≡ isClosed →
         loopSum isClosed (trips ps l indexes) (keptSums isClosed (tripTime ps l b indexes) (visitedTrips ps l b ranges (trips ps l indexes)))
         ≡ sumOver (trips ps l indexes) (tripTime ps l b indexes)
-    unfolding visitedTrips loopSum ClosedSumsExact
+    unfolding visitedTrips loopSum
     loopSum-exact true e =
         let n : ℕ = trips ps l indexes in
         let f : ℕ → Bounds = tripTime ps l b indexes in
         ap (λ (x : Bool). closedSum n (keptSums true f (cond x (min n (suc (height b))) n))) e
         ∙ ap (closedSum n) (keptSums-closed f (min n (suc (height b))))
-        ∙ exact l b ranges indexes moves sound inside (subst T (sym e) tt)
+        ∙ closed-sums-exact ps l b ranges indexes sound inside (subst T (sym e) tt)
     loopSum-exact false e =
         let n : ℕ = trips ps l indexes in
         let f : ℕ → Bounds = tripTime ps l b indexes in
@@ -182,18 +183,18 @@ module _ (ps : List ℤ) where
     unfolding pass passRecord
     loop-passes c v n e = ap (λ (x : ℕ). enterLoop ps x l bodyRecords c fs v) e
 
-    module _ (exact : ClosedSumsExact ps) (tripsInside : TripsInside ps) (moves : 1 ≤ l .stride) (sound : Sound b)
+    module _ (sound : Sound b)
         (inside : Inside (indexesOf ps fs) (rangesOf ps fs))
         (body-adds : (gs : List Frame) → Inside (indexesOf ps gs) (rangesOf ps gs) →
         Adds gs bodyRecords (endRecord ∷ q) (time ps b (indexesOf ps gs)) (visits ps b (rangesOf ps gs) (indexesOf ps gs))) where
       -- the body of trip k
       trip-leads : (enclosing : Bounds) (k w : ℕ) → k < visited →
           Leads ps (bodyVisits k) (tripStart enclosing k w) (tripEnd enclosing k (w + bodyVisits k))
-      unfolding indexesOf rangesOf TripsInside
+      unfolding indexesOf rangesOf
       trip-leads enclosing k w h =
           let possible : k < tripsMade = omega (arith, visited-most l b (rangesOf ps fs) tripsMade) in
           adds-from-zero (tripFrames enclosing k) bodyRecords (endRecord ∷ q) (bodyTime k) (bodyVisits k) w
-          (body-adds (tripFrames enclosing k) (tripsInside l (rangesOf ps fs) (indexesOf ps fs) k inside possible))
+          (body-adds (tripFrames enclosing k) (trips-inside ps l (rangesOf ps fs) (indexesOf ps fs) k inside possible))
 
       -- from the loop's record to the start of trip k
       trip-opens : (c : Bounds) (v k : ℕ) → k < visited →
@@ -226,7 +227,7 @@ module _ (ps : List ℤ) where
           let all : countOver visited visitsOfTrip ≡ countOver k visitsOfTrip + visitsOfTrip k = ap (λ (m : ℕ). countOver m visitsOfTrip) e in
           let sum : loopSum isClosed tripsMade (sumsBefore (suc k)) ≡ sumOver tripsMade timeOfTrip =
           ap (λ (m : ℕ). loopSum isClosed tripsMade (sumsBefore m)) (sym e)
-          ∙ loopSum-exact exact l b (rangesOf ps fs) (indexesOf ps fs) moves sound inside isClosed refl in
+          ∙ loopSum-exact l b (rangesOf ps fs) (indexesOf ps fs) sound inside isClosed refl in
           leads-equal ps (begun + bodyVisits k) (countOver visited visitsOfTrip) _ _ _ (omega arith)
           (state-equal q fs (ap (λ t. enclosing ⊕ t) sum ∙ ⊕-assoc c (exactly (l .start)) (sumOver tripsMade timeOfTrip)) (omega arith))
           (leads-then-going ps (begun + bodyVisits k) _ _ _
@@ -261,50 +262,49 @@ module _ (ps : List ℤ) where
   addArm-two none c d = refl
   addArm-two (some p) c d = bounds-equal _ _ (omega arith) (omega arith)
 
-  module _ (exact : ClosedSumsExact ps) (tripsInside : TripsInside ps) where
-    -- Passing a tree's records adds its time and its visits. A choice's frame leaves the indexes and the ranges as they are.
-    mutual
-      unfolding Adds time visits records pass passRecord indexesOf rangesOf addArm Sound
+  -- Passing a tree's records adds its time and its visits. A choice's frame leaves the indexes and the ranges as they are.
+  mutual
+    unfolding Adds time visits records pass passRecord indexesOf rangesOf addArm Sound
 
-      pub block-adds : (b : Block) → Sound b → (q : List Record) (fs : List Frame) → Inside (indexesOf ps fs) (rangesOf ps fs) →
-          Adds fs (records b ++ q) q (time ps b (indexesOf ps fs)) (visits ps b (rangesOf ps fs) (indexesOf ps fs))
-      block-adds empty s q fs inside = adds-nothing fs q
-      block-adds (work least most rest) s q fs inside =
-          adds-going fs _ (records rest ++ q) q (bounds least most) _ _ (λ c v. refl) (block-adds rest (s .1) q fs inside)
-      block-adds (loop l body rest) s q fs inside =
-          let after : List Record = records rest ++ q in
-          adds-records fs _ _ q _ _ (ap (λ rs. loopRecord l ∷ rs) (append-assoc (records body) (endRecord ∷ records rest) q))
-          (adds-then fs _ after q _ _ _ _
-          (loop-adds fs l body after exact tripsInside (s .0 .moves) (s .1) inside
-          (λ gs within. block-adds body (s .1) (endRecord ∷ after) gs within))
-          (block-adds rest (s .2) q fs inside))
-      block-adds (choice arms rest) s q fs inside =
-          let after : List Record = records rest ++ q in
-          adds-records fs _ _ q _ _ (ap (λ rs. choiceRecord ∷ rs) (append-assoc (armsRecords arms) (endRecord ∷ records rest) q))
-          (adds-then fs _ after q _ _ _ _
-          (λ c v. leads-going ps _ _ _ _ refl (arms-add arms (s .0) after none c fs v inside))
-          (block-adds rest (s .1) q fs inside))
+    pub block-adds : (b : Block) → Sound b → (q : List Record) (fs : List Frame) → Inside (indexesOf ps fs) (rangesOf ps fs) →
+        Adds fs (records b ++ q) q (time ps b (indexesOf ps fs)) (visits ps b (rangesOf ps fs) (indexesOf ps fs))
+    block-adds empty s q fs inside = adds-nothing fs q
+    block-adds (work least most rest) s q fs inside =
+        adds-going fs _ (records rest ++ q) q (bounds least most) _ _ (λ c v. refl) (block-adds rest (s .1) q fs inside)
+    block-adds (loop l body rest) s q fs inside =
+        let after : List Record = records rest ++ q in
+        adds-records fs _ _ q _ _ (ap (λ rs. loopRecord l ∷ rs) (append-assoc (records body) (endRecord ∷ records rest) q))
+        (adds-then fs _ after q _ _ _ _
+        (loop-adds fs l body after (s .1) inside
+        (λ gs within. block-adds body (s .1) (endRecord ∷ after) gs within))
+        (block-adds rest (s .2) q fs inside))
+    block-adds (choice arms rest) s q fs inside =
+        let after : List Record = records rest ++ q in
+        adds-records fs _ _ q _ _ (ap (λ rs. choiceRecord ∷ rs) (append-assoc (armsRecords arms) (endRecord ∷ records rest) q))
+        (adds-then fs _ after q _ _ _ _
+        (λ c v. leads-going ps _ _ _ _ refl (arms-add arms (s .0) after none c fs v inside))
+        (block-adds rest (s .1) q fs inside))
 
-      arms-add : (arms : Arms) → ArmsSound arms → (q : List Record) (passedArms : Option Bounds) (enclosing : Bounds) (fs : List Frame) (v : ℕ) →
-          Inside (indexesOf ps fs) (rangesOf ps fs) →
-          Leads ps (armsVisits ps arms (rangesOf ps fs) (indexesOf ps fs))
-          (state (armsRecords arms ++ (endRecord ∷ q)) (exactly zero) (choiceFrame passedArms enclosing ∷ fs) v)
-          (state q (enclosing ⊕ addArm passedArms (armsTime ps arms (indexesOf ps fs))) fs
-          (v + armsVisits ps arms (rangesOf ps fs) (indexesOf ps fs)))
-      arms-add (lastArm b) s q p enclosing fs v inside =
-          let gs : List Frame = choiceFrame p enclosing ∷ fs in
-          leads-then-going ps _ _ _ _ (adds-from-zero gs _ (endRecord ∷ q) _ _ v (block-adds b s (endRecord ∷ q) gs inside)) refl
-      arms-add (arm b arms) s q p enclosing fs v inside =
-          let gs : List Frame = choiceFrame p enclosing ∷ fs in
-          let after : List Record = nextArmRecord ∷ (armsRecords arms ++ (endRecord ∷ q)) in
-          let first : Bounds = time ps b (indexesOf ps fs) in
-          let begun : ℕ = visits ps b (rangesOf ps fs) (indexesOf ps fs) in
-          let further : ℕ = armsVisits ps arms (rangesOf ps fs) (indexesOf ps fs) in
-          let e : v + begun + further ≡ v + (begun + further) = omega arith in
-          leads-equal ps (begun + further) (begun + further) _ _ _ refl
-          (state-equal q fs (ap (λ t. enclosing ⊕ t) (addArm-two p first (armsTime ps arms (indexesOf ps fs)))) e)
-          (leads-then ps begun further _ _ _
-          (adds-from-zero gs _ after first begun v
-          (adds-records gs _ _ after first begun (append-assoc (records b) (nextArmRecord ∷ armsRecords arms) (endRecord ∷ q))
-          (block-adds b (s .0) after gs inside)))
-          (leads-going ps further _ _ _ refl (arms-add arms (s .1) q (some (addArm p first)) enclosing fs (v + begun) inside)))
+    arms-add : (arms : Arms) → ArmsSound arms → (q : List Record) (passedArms : Option Bounds) (enclosing : Bounds) (fs : List Frame) (v : ℕ) →
+        Inside (indexesOf ps fs) (rangesOf ps fs) →
+        Leads ps (armsVisits ps arms (rangesOf ps fs) (indexesOf ps fs))
+        (state (armsRecords arms ++ (endRecord ∷ q)) (exactly zero) (choiceFrame passedArms enclosing ∷ fs) v)
+        (state q (enclosing ⊕ addArm passedArms (armsTime ps arms (indexesOf ps fs))) fs
+        (v + armsVisits ps arms (rangesOf ps fs) (indexesOf ps fs)))
+    arms-add (lastArm b) s q p enclosing fs v inside =
+        let gs : List Frame = choiceFrame p enclosing ∷ fs in
+        leads-then-going ps _ _ _ _ (adds-from-zero gs _ (endRecord ∷ q) _ _ v (block-adds b s (endRecord ∷ q) gs inside)) refl
+    arms-add (arm b arms) s q p enclosing fs v inside =
+        let gs : List Frame = choiceFrame p enclosing ∷ fs in
+        let after : List Record = nextArmRecord ∷ (armsRecords arms ++ (endRecord ∷ q)) in
+        let first : Bounds = time ps b (indexesOf ps fs) in
+        let begun : ℕ = visits ps b (rangesOf ps fs) (indexesOf ps fs) in
+        let further : ℕ = armsVisits ps arms (rangesOf ps fs) (indexesOf ps fs) in
+        let e : v + begun + further ≡ v + (begun + further) = omega arith in
+        leads-equal ps (begun + further) (begun + further) _ _ _ refl
+        (state-equal q fs (ap (λ t. enclosing ⊕ t) (addArm-two p first (armsTime ps arms (indexesOf ps fs)))) e)
+        (leads-then ps begun further _ _ _
+        (adds-from-zero gs _ after first begun v
+        (adds-records gs _ _ after first begun (append-assoc (records b) (nextArmRecord ∷ armsRecords arms) (endRecord ∷ q))
+        (block-adds b (s .0) after gs inside)))
+        (leads-going ps further _ _ _ refl (arms-add arms (s .1) q (some (addArm p first)) enclosing fs (v + begun) inside)))

@@ -8,13 +8,13 @@ use native.Mathlib.Omega.{arith}
 use lib.IntN.{ℤ}
 use lib.ListN.{length, length-append}
 use Rattle.meaning.specs.Limits.{recordLimit, depthLimit, costLimit, ceilingLimit, figureLimit}
-use Rattle.meaning.specs.Record.{Loop, Record, workRecord, loopRecord, endRecord, choiceRecord, nextArmRecord, recordLength, sheetLength}
+use Rattle.meaning.specs.Record.{Record, workRecord, loopRecord, endRecord, choiceRecord, nextArmRecord, recordLength, sheetLength}
 use Rattle.meaning.specs.Tree.{Block, Arms, empty, work, loop, choice, lastArm, arm, records, armsRecords, height, armsHeight}
 use Rattle.meaning.specs.Time.{Bounds, sumOver, trips, innerIndexes, time, armsTime}
-use Rattle.meaning.specs.Range.{Range, innerRanges, ceiling}
+use Rattle.meaning.specs.Range.{Range, innerRanges}
 use Rattle.meaning.specs.Report.{loopReports, armsReports, firstOverCeiling}
 use Rattle.meaning.proofs.Sound.{Sound, ArmsSound}
-use Rattle.meaning.proofs.Trips.{Inside, TripsInside, tripTime}
+use Rattle.meaning.proofs.Trips.{Inside, tripTime}
 use Rattle.meaning.proofs.Ranges.{trips-inside, trips-ceiling}
 use Rattle.meaning.proofs.Reports.{WithinCeiling, within-append, first-over-none}
 
@@ -51,7 +51,7 @@ join-bound u rs ss r =
 
 module _ (ps : List ℤ) where
   mutual
-    unfolding time loopReports height records Sound WithinCeiling TripsInside
+    unfolding time loopReports height records Sound WithinCeiling
 
     -- a tree's time is at most 4,095 times 2,048 to the power of its depth d for each of its records
     pub most-bound : (b : Block) → Sound b → (ranges : List Range) (indexes : List ℤ) (at d : ℕ) → Inside indexes ranges →

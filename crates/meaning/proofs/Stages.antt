@@ -12,8 +12,6 @@ use Rattle.meaning.specs.Stage.{Frame, State, state, firstState, Step, b
 use Rattle.meaning.specs.Demand.{StagesReach}
 use Rattle.meaning.proofs.Sound.{Sound}
 use Rattle.meaning.proofs.Trips.{Inside}
-use Rattle.meaning.proofs.Ranges.{trips-inside}
-use Rattle.meaning.proofs.ClosedLoops.{closed-sums-exact}
 use Rattle.meaning.proofs.Passes.{stage-visits, stage-at-end}
 use Rattle.meaning.proofs.Leads.{Leads, leads-equal, leads-begins, leads-stages, leads-last}
 use Rattle.meaning.proofs.Simulation.{adds-records, adds-from-zero, block-adds}
@@ -80,7 +78,7 @@ module _ (ps : List ℤ) where
         leads-equal ps sheetVisits sheetVisits _ _ _ refl (ap (state [] (time ps (tree rs) []) []) e)
         (adds-from-zero ps [] rs [] (time ps (tree rs) []) sheetVisits 0
         (adds-records ps [] rs (records (tree rs) ++ []) [] _ _ (sym (append-nil (records (tree rs)) ∙ same))
-        (block-adds ps (closed-sums-exact ps) (trips-inside ps) (tree rs) sound [] [] tt)))
+        (block-adds ps (tree rs) sound [] [] tt)))
 
     -- No stage from the sheet's start is stuck: each of the first ones begins a visit, as many as there are visits by the definition.
     pub stages-begin-visits : (n : ℕ) → n < visits ps (tree rs) [] [] →

@@ -1,7 +1,7 @@
 -- The sum of a loop's trips from those visited: of a closed loop by Newton's forward differences (document 003, equations 3 and 4).
 use mathlib.Core.List.{List, [], _∷_, _++_, map}
 use mathlib.Core.Bool.{Bool, true, false}
-use Prim.Native.Nat.{ℕ, zero, suc}
+use Prim.Native.Nat.{ℕ, zero}
 use lib.IntN.{ℤ, pos}
 use Rattle.whole.specs.Integer.{atLeastZero}
 use Rattle.whole.specs.Newton.{newtonSum}

@@ -8,11 +8,11 @@ use lib.ListN.{length}
 use Rattle.meaning.specs.Limits.{figureLimit, visitsPerLoop}
 use Rattle.meaning.specs.Record.{Record}
 use Rattle.meaning.specs.Tree.{tree, loops}
-use Rattle.meaning.specs.Time.{Bounds, bounds, time}
+use Rattle.meaning.specs.Time.{bounds, time}
 use Rattle.meaning.specs.Run.{Run}
 use Rattle.meaning.specs.Visits.{visits}
 use Rattle.meaning.specs.Report.{allClosed}
-use Rattle.meaning.specs.Stage.{State, state, firstState, stages, visitsBegun}
+use Rattle.meaning.specs.Stage.{state, firstState, stages, visitsBegun}
 use Rattle.meaning.specs.Answer.{Figures, sheetReports}
 
 module _ (parameters : List ℤ) (rs : List Record) where

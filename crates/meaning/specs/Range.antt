@@ -1,6 +1,6 @@
 -- Ranges of forms, from the signs of the factors (document 003, section 3), indexes and D; ceilings.
 use mathlib.Core.List.{List, [], _∷_, _++_}
-use Prim.Native.Nat.{ℕ, zero, suc}
+use Prim.Native.Nat.{ℕ, zero}
 use lib.IntN.{ℤ, pos, negsuc, _+ℤ_, _*ℤ_}
 use Rattle.whole.specs.Integer.{dot, larger}
 use Rattle.meaning.specs.Form.{Form}

@@ -2,11 +2,11 @@
 use mathlib.Core.List.{List, [], _∷_, _++_}
 use mathlib.Core.Bool.{Bool, true, false, _&&_}
 use mathlib.Core.Option.{Option, none, some}
-use Prim.Native.Nat.{ℕ, zero, suc, _+_}
+use Prim.Native.Nat.{ℕ, _+_}
 use lib.IntN.{ℤ}
 use lib.Dec.{ltb}
 use Rattle.meaning.specs.Limits.{ceilingLimit}
-use Rattle.meaning.specs.Record.{Loop, workRecord, loopRecord, endRecord, choiceRecord, nextArmRecord, recordLength, sheetLength}
+use Rattle.meaning.specs.Record.{workRecord, loopRecord, endRecord, choiceRecord, nextArmRecord, recordLength, sheetLength}
 use Rattle.meaning.specs.Tree.{Block, Arms, empty, work, loop, choice, lastArm, arm, records, armsRecords}
 use Rattle.meaning.specs.Range.{Range, innerRanges, ceiling}
 use Rattle.meaning.specs.Closed.{closed}

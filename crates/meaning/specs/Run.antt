@@ -1,10 +1,9 @@
 -- Runs: what the works and choices of a tree may come to.
 use mathlib.Core.Path.{_≡_}
-use mathlib.Core.List.{List, [], _∷_}
+use mathlib.Core.List.{List}
 use mathlib.Core.Logic.{_⊎_}
 use Prim.Native.Nat.{ℕ, zero, suc, _+_, _≤_}
 use lib.IntN.{ℤ}
-use Rattle.meaning.specs.Record.{Loop}
 use Rattle.meaning.specs.Tree.{Block, Arms, empty, work, loop, choice, lastArm, arm}
 use Rattle.meaning.specs.Time.{trips, innerIndexes}
 

@@ -1,6 +1,6 @@
 -- Visits, by the definition.
 use mathlib.Core.List.{List}
-use mathlib.Core.Bool.{Bool, cond}
+use mathlib.Core.Bool.{cond}
 use Prim.Native.Nat.{ℕ, zero, suc, _+_, min}
 use lib.IntN.{ℤ}
 use Rattle.meaning.specs.Record.{Loop}

@@ -1,7 +1,7 @@
 -- The writer: the sheet's length and the buffer as it is left, or refusal 4, 2, 3, 5 or 9 with its place.
 use mathlib.Core.List.{List, [], _∷_, _++_}
 use mathlib.Core.Bool.{Bool, _&&_}
-use Prim.Native.Nat.{ℕ, zero, suc, _+_}
+use Prim.Native.Nat.{ℕ, _+_}
 use lib.Dec.{leb, eqb}
 use lib.ListN.{length, take, drop}
 use Rattle.meaning.specs.Limits.{recordLimit}

@@ -4,13 +4,13 @@ use mathlib.Core.Bool.{Bool, true, false, not, cond}
 use Prim.Native.Nat.{ℕ, zero, suc, _+_, _*_, _-_, _^_, _≤_, _<_}
 use native.Mathlib.Nat.{mul-le-mul}
 use native.Mathlib.Omega.{arith}
-use lib.IntN.{ℤ, pos, negsuc, negℤ, natAbs, sucℤ, subℕ, _+ℤ_, _*ℤ_, sucℤ-+ℤ, +ℤ-assoc, +ℤ-idr}
-use lib.Signed.{leZ, mag}
+use lib.IntN.{ℤ, pos, negsuc, negℤ, natAbs, sucℤ, subℕ, _+ℤ_, _-ℤ_, _*ℤ_, sucℤ-+ℤ, +ℤ-assoc, +ℤ-idr}
+use lib.Signed.{_≤ℤ_, leZ, mag}
 use lib.Dec.{T, ltb, leb→le, le→leb, ltb→lt, lt→ltb, nleb→lt}
 use mir.Syntax.{w64}
 use mir.Val.{SFits}
 use Rattle.whole.specs.Integer.{larger, atLeastZero}
-use Rattle.whole.proofs.Ring.{collect, parts, ⊖-eq, *ℤ-+ℤ, medial, back}
+use Rattle.whole.proofs.Ring.{collect, parts, ⊖-eq, *ℤ-+ℤ, medial, back, move-left, move-right}
 
 -- b is a plus a natural
 pub record AtMost (a b : ℤ) : Type 0 where
@@ -64,6 +64,13 @@ not-leZ→AtMost (pos a) (negsuc b) t = leZ→AtMost (negsuc b) (pos a) tt
 not-leZ→AtMost (negsuc a) (pos b) t = absurd t
 not-leZ→AtMost (negsuc a) (negsuc b) t = leZ→AtMost (negsuc b) (negsuc a) (le→leb a b (let k = nleb→lt b a t in omega arith))
 
+-- the library's order
+pub ≤ℤ→AtMost : {a b : ℤ} → a ≤ℤ b → AtMost a b
+≤ℤ→AtMost {a} {b} h = leZ→AtMost a b (h .le)
+
+pub AtMost→≤ℤ : {a b : ℤ} → AtMost a b → a ≤ℤ b
+AtMost→≤ℤ {a} {b} h = record { le = AtMost→leZ a b h }
+
 -- ---- laws of the order
 
 pub AtMost-refl : (a : ℤ) → AtMost a a
@@ -107,6 +114,13 @@ pub atLeastZero-monotone : (a b : ℤ) → AtMost a b → atLeastZero a ≤ atLe
 atLeastZero-monotone (pos a) (pos b) h = AtMost-pos h
 atLeastZero-monotone (pos a) (negsuc b) h = absurd (AtMost→leZ (pos a) (negsuc b) h)
 atLeastZero-monotone (negsuc a) b h = omega arith
+
+-- a term moved to the other side
+pub AtMost-subtract : (a b c : ℤ) → AtMost (a +ℤ b) c → AtMost b (c -ℤ a)
+AtMost-subtract a b c h = record { gap = h .gap; equation = move-left c a (b +ℤ pos (h .gap)) (h .equation ∙ +ℤ-assoc a b (pos (h .gap))) }
+
+pub AtMost-restore : (a b c : ℤ) → AtMost b (c -ℤ a) → AtMost (a +ℤ b) c
+AtMost-restore a b c h = record { gap = h .gap; equation = move-right c a (b +ℤ pos (h .gap)) (h .equation) ∙ sym (+ℤ-assoc a b (pos (h .gap))) }
 
 -- ---- the larger of two
 

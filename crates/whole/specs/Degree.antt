@@ -1,8 +1,8 @@
 -- Degree by differences, for functions of points that can be added, and the points that the counters of loops make.
 use mathlib.Core.Path.{_≡_}
-use mathlib.Core.List.{List, [], _∷_}
+use mathlib.Core.List.{List, [], _∷_, map}
 use Prim.Native.Nat.{ℕ, zero, suc}
-use lib.IntN.{ℤ, pos, _+ℤ_, _-ℤ_}
+use lib.IntN.{ℤ, pos, _+ℤ_, _-ℤ_, _*ℤ_}
 
 -- at most the given degree, where `add` adds points: degree 0 is constant, degree d + 1 has all first differences of degree d
 unfoldable pub Degree : {X : Type 0} → (X → X → X) → ℕ → (X → ℤ) → Type 0
@@ -15,6 +15,10 @@ unfoldable pub _⊞_ : List ℤ → List ℤ → List ℤ
 [] ⊞ ys = ys
 (x ∷ xs) ⊞ [] = x ∷ xs
 (x ∷ xs) ⊞ (y ∷ ys) = (x +ℤ y) ∷ (xs ⊞ ys)
+
+-- each counter multiplied
+abbrev pub times : ℤ → List ℤ → List ℤ
+times q xs = map (λ x. q *ℤ x) xs
 
 -- the first counter, 0 if there is none
 unfoldable pub firstOf : List ℤ → ℤ

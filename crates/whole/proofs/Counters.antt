@@ -1,41 +1,16 @@
--- More of the order of the integers, and sums and multiples of lists of integers.
+-- Sums and multiples of lists of counters, and how they go with sums of products.
 use mathlib.Core.Path.{_≡_, refl, sym, ap, ap₂, _∙_}
-use mathlib.Core.List.{List, [], _∷_, _++_, map}
+use mathlib.Core.List.{List, [], _∷_, _++_, map-append}
 use Prim.Native.Nat.{ℕ, zero, suc}
 use native.Mathlib.Omega.{arith}
-use lib.IntN.{ℤ, pos, _+ℤ_, _-ℤ_, _*ℤ_, +ℤ-assoc, +ℤ-idr, *ℤ-zero}
-use lib.Signed.{_≤ℤ_}
+use lib.IntN.{ℤ, pos, _+ℤ_, _*ℤ_, +ℤ-idr, *ℤ-zero}
 use lib.ListN.{length, replicate}
 use Rattle.whole.specs.Integer.{dot}
-use Rattle.whole.specs.Degree.{_⊞_}
-use Rattle.whole.proofs.Ring.{*ℤ-+ℤ, *ℤ-left-comm, move-left, move-right}
-use Rattle.whole.proofs.Order.{AtMost, leZ→AtMost, AtMost→leZ}
-
--- ---- the two ways to say that one integer is at most another
-
-pub ≤ℤ→AtMost : {a b : ℤ} → a ≤ℤ b → AtMost a b
-≤ℤ→AtMost {a} {b} h = leZ→AtMost a b (h .le)
-
-pub AtMost→≤ℤ : {a b : ℤ} → AtMost a b → a ≤ℤ b
-AtMost→≤ℤ {a} {b} h = record { le = AtMost→leZ a b h }
-
--- ---- a term moved to the other side
-
-pub AtMost-subtract : (a b c : ℤ) → AtMost (a +ℤ b) c → AtMost b (c -ℤ a)
-AtMost-subtract a b c h = record { gap = h .gap; equation = move-left c a (b +ℤ pos (h .gap)) (h .equation ∙ +ℤ-assoc a b (pos (h .gap))) }
-
-pub AtMost-restore : (a b c : ℤ) → AtMost b (c -ℤ a) → AtMost (a +ℤ b) c
-AtMost-restore a b c h = record { gap = h .gap; equation = move-right c a (b +ℤ pos (h .gap)) (h .equation) ∙ sym (+ℤ-assoc a b (pos (h .gap))) }
-
--- ---- sums and multiples of lists
-
--- each element multiplied
-abbrev pub times : ℤ → List ℤ → List ℤ
-times q xs = map (λ x. q *ℤ x) xs
+use Rattle.whole.specs.Degree.{_⊞_, times}
+use Rattle.whole.proofs.Ring.{*ℤ-+ℤ, *ℤ-left-comm}
 
 pub times-append-one : (q : ℤ) (xs : List ℤ) (x : ℤ) → times q (xs ++ (x ∷ [])) ≡ times q xs ++ ((q *ℤ x) ∷ [])
-times-append-one q [] x = refl
-times-append-one q (y ∷ xs) x = ap (λ (zs : List ℤ). (q *ℤ y) ∷ zs) (times-append-one q xs x)
+times-append-one q xs x = map-append (λ y. q *ℤ y) xs (x ∷ [])
 
 pub times-zeros : (q : ℤ) (n : ℕ) → times q (replicate n (pos zero)) ≡ replicate n (pos zero)
 times-zeros q zero = refl
