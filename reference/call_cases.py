@@ -92,6 +92,10 @@ def program_input(sheet: bytes, parameters: Parameters = ZERO, budget: int = 100
     return values + budget.to_bytes(4, "little") + sheet
 
 
+PARAMETERS_SHEET = encode_all([
+    loop(form(p=(1, 0, 0, -2)), form(p=(0, 3, -1)), stride=2), Work(1, 10), End(),
+])
+
 TEXT_CASES = [
     TextCase("the printed example", program_input(TRIANGLE)),
     TextCase("walked", program_input(UNEVEN)),
@@ -101,11 +105,11 @@ TEXT_CASES = [
     TextCase("2 at a place of two digits", program_input(ONE_WORK * 2 + b"\x06")),
     TextCase("budget 0", program_input(TRIANGLE, ZERO, 0)),
     TextCase("budget's third byte", program_input(ONE_WORK, ZERO, 65536)),
+    TextCase("budget's fourth byte", program_input(ONE_WORK, ZERO, 2 ** 24 + 1)),
     TextCase("8", program_input(TRIANGLE, ZERO, 2)),
     TextCase("6 in the second loop", program_input(encode_all(
         [span(0, 1), loop(form(), form(2047, i=1)), End(), End()]))),
-    TextCase("parameters in order, signed", program_input(encode_all(
-        [loop(form(p=(1, 0, 0, -2)), form(p=(0, 3, -1)), stride=2), Work(1, 10), End()]),
-        (-5, 4, -300, 20))),
+    TextCase("parameters in order, signed", program_input(PARAMETERS_SHEET, (-5, 4, -300, 20))),
+    TextCase("parameters 2 and 4 negative", program_input(PARAMETERS_SHEET, (5, -4, -300, -20))),
     TextCase("a large figure", program_input(WIDE)),
 ]

@@ -12,6 +12,10 @@ from sheet import BLANK, RawRecord, Written, raw, read, write
 from tree import Body, ChoiceNode, LoopNode, loops_directly_in, loops_in, tree
 from trips import Bounds, TooMany
 
+# Every figure is below this; where every loop is closed, there are so many visits a loop at most.
+FIGURE_LIMIT = 2 ** 62
+VISITS_PER_LOOP = 24
+
 
 def check_round_trip(records: list[Record]) -> None:
     """The reader and the writer undo each other; bytes past the sheet stay."""
@@ -45,7 +49,7 @@ def check_stages(records: list[Record], parameters: Parameters, limit: int) -> b
     state = stages.next_state(nest, state)
     assert stages.at_end(nest, state) and state.frames == () and state.visits == defined
     assert stages.next_state(nest, state) == state
-    assert 0 <= state.current.least <= state.current.most < 2 ** 62
+    assert 0 <= state.current.least <= state.current.most < FIGURE_LIMIT
     check_visit_bound(records, parameters, defined)
     check_answer(records, parameters, Figures(*state.current, defined))
     try:
@@ -56,10 +60,10 @@ def check_stages(records: list[Record], parameters: Parameters, limit: int) -> b
 
 
 def check_visit_bound(records: list[Record], parameters: Parameters, visits: int) -> None:
-    """Where every loop is closed, there are at most 24 visits a loop."""
+    """The visits where every loop is closed."""
     reports = loop_reports(records, parameters)
     if all(report.closed for report in reports):
-        assert visits <= 24 * len(reports)
+        assert visits <= VISITS_PER_LOOP * len(reports)
 
 
 def check_answer(records: list[Record], parameters: Parameters, figures: Figures) -> None:

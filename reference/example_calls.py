@@ -1,9 +1,10 @@
-"""Calls.antt: the writer, the C call, the record reader and the program's text."""
+"""Calls.antt: the writer, the C call, the record reader, the program's text, three numbers."""
 
 import antt
 from antt import Equation, inner, listed, octets, term
 from call_cases import C_CALL_CASES, READER_CASES, TEXT_CASES
-from calls import c_call, program_text
+from calls import INPUT_LIMIT, c_call, program_text
+from crosscheck import FIGURE_LIMIT, VISITS_PER_LOOP
 from records import Form, Refusal
 from sheet import Part, record_at, write
 from writer_cases import (
@@ -64,16 +65,20 @@ def call_equations() -> list[Equation]:
 
 
 def reader_equations() -> list[Equation]:
+    """What stands at the offset, and the body: empty where no record stands."""
     found: list[Equation] = []
     for case in READER_CASES:
         result = record_at(case.sheet, case.offset)
+        body = b""
         if isinstance(result, Part):
             name = "found"
+            body = case.sheet[result.body_offset:][:result.body_length]
         else:
             name = "not found" if isinstance(result, Refusal) else "sheet end"
+        given = [octets(case.sheet), str(case.offset)]
         right = term(name, *[str(number) for number in result])
-        left = term("record at", octets(case.sheet), str(case.offset))
-        found.append(Equation(case.tells, left, right))
+        found.append(Equation(case.tells, term("record at", *given), right))
+        found.append(Equation("", term("body at", *given), octets(body)))
     return found
 
 
@@ -85,11 +90,23 @@ def text_equations() -> list[Equation]:
     return found
 
 
+def number_equations() -> list[Equation]:
+    """Numbers of the requirement that stand in theorems and that no case meets."""
+    return [
+        Equation("every figure is below 2^62", term("figure limit"), str(FIGURE_LIMIT)),
+        Equation("visits a loop, where every loop is closed",
+                 term("visits per loop"), str(VISITS_PER_LOOP)),
+        Equation("bytes of the program's input that matter", term("input limit"), str(INPUT_LIMIT)),
+    ]
+
+
 def calls_file(group: int) -> str:
     parts = definitions()
     parts += antt.grouped("writer", writer_equations(), group)
     parts += antt.grouped("c-call", call_equations(), group)
     parts += antt.grouped("record-reader", reader_equations(), group)
     parts += antt.grouped("program-text", text_equations(), group)
-    comments = ["The writer, the C call, the record reader and the program's text, by cases."]
+    parts += antt.grouped("numbers", number_equations(), group)
+    comments = ["The writer, the C call, the record reader and the program's text, by cases.",
+                "Last three numbers that only theorems name."]
     return antt.file_text("Calls.antt", comments, parts)

@@ -61,6 +61,10 @@ EXAMPLES = [
         NextArm(), Choice(), END, loop(form(3), form(3, i=1), stride=2), UNIT, END, END,
         Work(4, 4), END,
     ]),
+    Example("three arms, the first with both extremes; a nest in the last, walked by the outer range", [
+        span(0, 3, step=1), Choice(), Work(1, 90), NextArm(), Work(3, 4), NextArm(),
+        span(0, 2), loop(form(i=1), form(1)), UNIT, END, END, END, END,
+    ]),
     Example("parameters, a negative factor, strides", [
         loop(form(p=(1,)), form(p=(1, 0, 2)), stride=3), Work(1, 2),
         loop(form(1, i=-1), form(20, i=-1, p=(0, -1)), stride=2, start=2), Work(5, 6), END, END,

@@ -1,9 +1,11 @@
 -- The writer, the C call, the record reader and the program's text, by cases.
+-- Last three numbers that only theorems name.
 use mathlib.Core.Path.{_≡_, refl}
 use mathlib.Core.List.{[], _∷_}
 use lib.IntN.{pos, negsuc}
+use Rattle.meaning.specs.Limits.{figureLimit, visitsPerLoop, inputLimit}
 use Rattle.meaning.specs.Form.{Form}
-use Rattle.meaning.specs.Reader.{refused, headAt}
+use Rattle.meaning.specs.Reader.{refused, headAt, bodyAt}
 use Rattle.meaning.specs.Writer.{RawRecord, write}
 use Rattle.meaning.specs.CCall.{cCall}
 use Rattle.meaning.specs.Text.{text}
@@ -274,44 +276,67 @@ c-call-2 = refl
 pub record-reader-1 :
     -- choice
     (headAt (hex "04020000000001000000000000000000000300000000000000000101000200030503") 0 ≡ found 4 1 0)
+    × (bodyAt (hex "04020000000001000000000000000000000300000000000000000101000200030503") 0 ≡ [])
     -- loop
     × (headAt (hex "04020000000001000000000000000000000300000000000000000101000200030503") 1 ≡ found 2 2 24)
+    × (bodyAt (hex "04020000000001000000000000000000000300000000000000000101000200030503") 1 ≡ (hex "000000000100000000000000000000030000000000000000"))
     -- work
     × (headAt (hex "04020000000001000000000000000000000300000000000000000101000200030503") 26 ≡ found 1 27 4)
+    × (bodyAt (hex "04020000000001000000000000000000000300000000000000000101000200030503") 26 ≡ (hex "01000200"))
     -- end
     × (headAt (hex "04020000000001000000000000000000000300000000000000000101000200030503") 31 ≡ found 3 32 0)
+    × (bodyAt (hex "04020000000001000000000000000000000300000000000000000101000200030503") 31 ≡ [])
     -- next arm
     × (headAt (hex "04020000000001000000000000000000000300000000000000000101000200030503") 32 ≡ found 5 33 0)
+    × (bodyAt (hex "04020000000001000000000000000000000300000000000000000101000200030503") 32 ≡ [])
     -- last record
     × (headAt (hex "04020000000001000000000000000000000300000000000000000101000200030503") 33 ≡ found 3 34 0)
+    × (bodyAt (hex "04020000000001000000000000000000000300000000000000000101000200030503") 33 ≡ [])
     -- the sheet's end
     × (headAt (hex "04020000000001000000000000000000000300000000000000000101000200030503") 34 ≡ sheetEnd)
+    × (bodyAt (hex "04020000000001000000000000000000000300000000000000000101000200030503") 34 ≡ [])
     -- past the sheet's end
     × (headAt (hex "04020000000001000000000000000000000300000000000000000101000200030503") 35 ≡ sheetEnd)
+    × (bodyAt (hex "04020000000001000000000000000000000300000000000000000101000200030503") 35 ≡ [])
     -- empty sheet
     × (headAt [] 0 ≡ sheetEnd)
+    × (bodyAt [] 0 ≡ [])
     -- inside a body
     × (headAt (hex "04020000000001000000000000000000000300000000000000000101000200030503") 2 ≡ refused 2 2)
+    × (bodyAt (hex "04020000000001000000000000000000000300000000000000000101000200030503") 2 ≡ [])
+unfolding computes
+record-reader-1 = (refl, refl, refl, refl, refl, refl, refl, refl, refl, refl, refl, refl, refl, refl, refl, refl, refl, refl, refl, refl)
+
+pub record-reader-2 :
     -- loop, one byte short
-    × (headAt (hex "04020000000001000000000000000000000300000000000000") 1 ≡ refused 1 1)
+    (headAt (hex "04020000000001000000000000000000000300000000000000") 1 ≡ refused 1 1)
+    × (bodyAt (hex "04020000000001000000000000000000000300000000000000") 1 ≡ [])
     -- loop, just whole
     × (headAt (hex "0402000000000100000000000000000000030000000000000000") 1 ≡ found 2 2 24)
+    × (bodyAt (hex "0402000000000100000000000000000000030000000000000000") 1 ≡ (hex "000000000100000000000000000000030000000000000000"))
     -- kind alone
     × (headAt (hex "02") 0 ≡ refused 1 0)
+    × (bodyAt (hex "02") 0 ≡ [])
     -- work, one byte short
     × (headAt (hex "01030005") 0 ≡ refused 1 0)
+    × (bodyAt (hex "01030005") 0 ≡ [])
     -- work, just whole
     × (headAt (hex "0103000500") 0 ≡ found 1 1 4)
+    × (bodyAt (hex "0103000500") 0 ≡ (hex "03000500"))
     -- kind 0
     × (headAt (hex "00") 0 ≡ refused 2 0)
+    × (bodyAt (hex "00") 0 ≡ [])
     -- kind 6
     × (headAt (hex "010300050006") 5 ≡ refused 2 5)
+    × (bodyAt (hex "010300050006") 5 ≡ [])
     -- kind 255
     × (headAt (hex "03ff03") 1 ≡ refused 2 1)
+    × (bodyAt (hex "03ff03") 1 ≡ [])
     -- fields are not looked at
     × (headAt (hex "01ffff0000") 0 ≡ found 1 1 4)
+    × (bodyAt (hex "01ffff0000") 0 ≡ (hex "ffff0000"))
 unfolding computes
-record-reader-1 = (refl, refl, refl, refl, refl, refl, refl, refl, refl, refl, refl, refl, refl, refl, refl, refl, refl, refl, refl)
+record-reader-2 = (refl, refl, refl, refl, refl, refl, refl, refl, refl, refl, refl, refl, refl, refl, refl, refl, refl, refl)
 
 pub program-text-1 :
     -- the printed example
@@ -330,13 +355,27 @@ pub program-text-1 :
     × (programText (hex "0000000000000000000000000200000000010000000000000000000009000000000000000002000000000100000000000000000000ffff0100000000000001010001000303") ≡ (text "refused 7 at 0\n"))
     -- budget's third byte
     × (programText (hex "0000000000000000000001000103000500") ≡ (text "best 3 worst 5 visits 0\n"))
+    -- budget's fourth byte
+    × (programText (hex "0000000000000000010000010103000500") ≡ (text "refused 7 at 0\n"))
     -- 8
     × (programText (hex "0000000000000000020000000200000000010000000000000000000009000000000000000002000000000100000000000000000000ffff0100000000000001010001000303") ≡ (text "refused 8 at 0\n"))
     -- 6 in the second loop
     × (programText (hex "0000000000000000640000000200000000010000000000000000000001000000000000000002000000000100000000000000000000ff07010000000000000303") ≡ (text "refused 6 at 25\n"))
     -- parameters in order, signed
     × (programText (hex "fbff0400d4fe140064000000020000000002000000000000010000fe00000000000003ff000101000a0003") ≡ (text "best 179 worst 1790 visits 1\nloop 0 closed ceiling 179\n"))
+    -- parameters 2 and 4 negative
+    × (programText (hex "0500fcffd4feecff64000000020000000002000000000000010000fe00000000000003ff000101000a0003") ≡ (text "best 122 worst 1220 visits 1\nloop 0 closed ceiling 122\n"))
     -- a large figure
     × (programText (hex "0000000000000000640000000101002c0102ff0fff0f0100000000000000000000ff0700000000000000010000ff0f03") ≡ (text "best 8390656 worst 16777515 visits 1\nloop 5 closed ceiling 2048\n"))
 unfolding computes
-program-text-1 = (refl, refl, refl, refl, refl, refl, refl, refl, refl, refl, refl, refl)
+program-text-1 = (refl, refl, refl, refl, refl, refl, refl, refl, refl, refl, refl, refl, refl, refl)
+
+pub numbers-1 :
+    -- every figure is below 2^62
+    (figureLimit ≡ 4611686018427387904)
+    -- visits a loop, where every loop is closed
+    × (visitsPerLoop ≡ 24)
+    -- bytes of the program's input that matter
+    × (inputLimit ≡ 1613)
+unfolding computes
+numbers-1 = (refl, refl, refl)

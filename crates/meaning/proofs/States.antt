@@ -331,23 +331,65 @@ pub states-13 :
 unfolding computes
 states-13 = (refl, refl, refl, refl, refl, refl, refl)
 
--- 14. parameters, a negative factor, strides
+-- 14. three arms, the first with both extremes; a nest in the last, walked by the outer range
 abbrev loop14-0 : Loop
-loop14-0 = loopOf 0 0 3 (form (pos 0) (pos 0 ∷ pos 0 ∷ pos 0 ∷ []) (pos 1 ∷ pos 0 ∷ pos 0 ∷ pos 0 ∷ [])) (form (pos 0) (pos 0 ∷ pos 0 ∷ pos 0 ∷ []) (pos 1 ∷ pos 0 ∷ pos 2 ∷ pos 0 ∷ []))
+loop14-0 = loopOf 0 1 1 (form (pos 0) (pos 0 ∷ pos 0 ∷ pos 0 ∷ []) (pos 0 ∷ pos 0 ∷ pos 0 ∷ pos 0 ∷ [])) (form (pos 3) (pos 0 ∷ pos 0 ∷ pos 0 ∷ []) (pos 0 ∷ pos 0 ∷ pos 0 ∷ pos 0 ∷ []))
 
-abbrev loop14-2 : Loop
-loop14-2 = loopOf 2 0 2 (form (pos 1) (negsuc 0 ∷ pos 0 ∷ pos 0 ∷ []) (pos 0 ∷ pos 0 ∷ pos 0 ∷ pos 0 ∷ [])) (form (pos 20) (negsuc 0 ∷ pos 0 ∷ pos 0 ∷ []) (pos 0 ∷ negsuc 0 ∷ pos 0 ∷ pos 0 ∷ []))
+abbrev loop14-6 : Loop
+loop14-6 = loopOf 0 0 1 (form (pos 0) (pos 0 ∷ pos 0 ∷ pos 0 ∷ []) (pos 0 ∷ pos 0 ∷ pos 0 ∷ pos 0 ∷ [])) (form (pos 2) (pos 0 ∷ pos 0 ∷ pos 0 ∷ []) (pos 0 ∷ pos 0 ∷ pos 0 ∷ pos 0 ∷ []))
+
+abbrev loop14-7 : Loop
+loop14-7 = loopOf 0 0 1 (form (pos 0) (pos 1 ∷ pos 0 ∷ pos 0 ∷ []) (pos 0 ∷ pos 0 ∷ pos 0 ∷ pos 0 ∷ [])) (form (pos 1) (pos 0 ∷ pos 0 ∷ pos 0 ∷ []) (pos 0 ∷ pos 0 ∷ pos 0 ∷ pos 0 ∷ []))
 
 abbrev records14 : List Record
-records14 = loopRecord loop14-0 ∷ workRecord 1 2 ∷ loopRecord loop14-2 ∷ workRecord 5 6 ∷ endRecord ∷ endRecord ∷ []
+records14 = loopRecord loop14-0 ∷ choiceRecord ∷ workRecord 1 90 ∷ nextArmRecord ∷ workRecord 3 4 ∷ nextArmRecord ∷ loopRecord loop14-6 ∷ loopRecord loop14-7 ∷ workRecord 1 1 ∷ endRecord ∷ endRecord ∷ endRecord ∷ endRecord ∷ []
 
 pub states-14 :
-    (stateAfter 0 records14 (negsuc 3 ∷ pos 7 ∷ pos 3 ∷ pos 0 ∷ []) ≡ state (drop 0 records14) (bounds 0 0) [] 0)
-    × (stateAfter 1 records14 (negsuc 3 ∷ pos 7 ∷ pos 3 ∷ pos 0 ∷ []) ≡ state (drop 1 records14) (bounds 0 0) (loopFrame loop14-0 (drop 1 records14) 0 [] (bounds 0 0) ∷ []) 1)
-    × (stateAfter 2 records14 (negsuc 3 ∷ pos 7 ∷ pos 3 ∷ pos 0 ∷ []) ≡ state (drop 3 records14) (bounds 0 0) (loopFrame loop14-2 (drop 3 records14) 0 [] (bounds 3 4) ∷ loopFrame loop14-0 (drop 1 records14) 0 [] (bounds 0 0) ∷ []) 2)
-    × (stateAfter 3 records14 (negsuc 3 ∷ pos 7 ∷ pos 3 ∷ pos 0 ∷ []) ≡ state (drop 1 records14) (bounds 0 0) (loopFrame loop14-0 (drop 1 records14) 1 (bounds 38 46 ∷ []) (bounds 0 0) ∷ []) 3)
-    × (stateAfter 4 records14 (negsuc 3 ∷ pos 7 ∷ pos 3 ∷ pos 0 ∷ []) ≡ state (drop 3 records14) (bounds 0 0) (loopFrame loop14-2 (drop 3 records14) 0 [] (bounds 3 4) ∷ loopFrame loop14-0 (drop 1 records14) 1 (bounds 38 46 ∷ []) (bounds 0 0) ∷ []) 4)
-    × (stateAfter 5 records14 (negsuc 3 ∷ pos 7 ∷ pos 3 ∷ pos 0 ∷ []) ≡ state (drop 6 records14) (bounds 114 138) [] 4)
-    × (stateAfter 6 records14 (negsuc 3 ∷ pos 7 ∷ pos 3 ∷ pos 0 ∷ []) ≡ state (drop 6 records14) (bounds 114 138) [] 4)
+    (stateAfter 0 records14 zeroParameters ≡ state (drop 0 records14) (bounds 0 0) [] 0)
+    × (stateAfter 1 records14 zeroParameters ≡ state (drop 1 records14) (bounds 0 0) (loopFrame loop14-0 (drop 1 records14) 0 [] (bounds 0 0) ∷ []) 1)
+    × (stateAfter 2 records14 zeroParameters ≡ state (drop 7 records14) (bounds 0 0) (loopFrame loop14-6 (drop 7 records14) 0 [] (bounds 0 0) ∷ choiceFrame (some (bounds 1 90)) (bounds 0 0) ∷ loopFrame loop14-0 (drop 1 records14) 0 [] (bounds 0 0) ∷ []) 2)
+    × (stateAfter 3 records14 zeroParameters ≡ state (drop 8 records14) (bounds 0 0) (loopFrame loop14-7 (drop 8 records14) 0 [] (bounds 0 0) ∷ loopFrame loop14-6 (drop 7 records14) 0 [] (bounds 0 0) ∷ choiceFrame (some (bounds 1 90)) (bounds 0 0) ∷ loopFrame loop14-0 (drop 1 records14) 0 [] (bounds 0 0) ∷ []) 3)
+    × (stateAfter 4 records14 zeroParameters ≡ state (drop 7 records14) (bounds 0 0) (loopFrame loop14-6 (drop 7 records14) 1 (bounds 2 2 ∷ []) (bounds 0 0) ∷ choiceFrame (some (bounds 1 90)) (bounds 0 0) ∷ loopFrame loop14-0 (drop 1 records14) 0 [] (bounds 0 0) ∷ []) 4)
+    × (stateAfter 5 records14 zeroParameters ≡ state (drop 8 records14) (bounds 0 0) (loopFrame loop14-7 (drop 8 records14) 0 [] (bounds 0 0) ∷ loopFrame loop14-6 (drop 7 records14) 1 (bounds 2 2 ∷ []) (bounds 0 0) ∷ choiceFrame (some (bounds 1 90)) (bounds 0 0) ∷ loopFrame loop14-0 (drop 1 records14) 0 [] (bounds 0 0) ∷ []) 5)
+    × (stateAfter 6 records14 zeroParameters ≡ state (drop 7 records14) (bounds 0 0) (loopFrame loop14-6 (drop 7 records14) 2 (bounds 4 4 ∷ []) (bounds 0 0) ∷ choiceFrame (some (bounds 1 90)) (bounds 0 0) ∷ loopFrame loop14-0 (drop 1 records14) 0 [] (bounds 0 0) ∷ []) 6)
+    × (stateAfter 7 records14 zeroParameters ≡ state (drop 8 records14) (bounds 0 0) (loopFrame loop14-7 (drop 8 records14) 0 [] (bounds 0 0) ∷ loopFrame loop14-6 (drop 7 records14) 2 (bounds 4 4 ∷ []) (bounds 0 0) ∷ choiceFrame (some (bounds 1 90)) (bounds 0 0) ∷ loopFrame loop14-0 (drop 1 records14) 0 [] (bounds 0 0) ∷ []) 7)
+    × (stateAfter 8 records14 zeroParameters ≡ state (drop 1 records14) (bounds 0 0) (loopFrame loop14-0 (drop 1 records14) 1 (bounds 2 91 ∷ []) (bounds 0 0) ∷ []) 8)
+    × (stateAfter 9 records14 zeroParameters ≡ state (drop 7 records14) (bounds 0 0) (loopFrame loop14-6 (drop 7 records14) 0 [] (bounds 0 0) ∷ choiceFrame (some (bounds 1 90)) (bounds 0 0) ∷ loopFrame loop14-0 (drop 1 records14) 1 (bounds 2 91 ∷ []) (bounds 0 0) ∷ []) 9)
+    × (stateAfter 10 records14 zeroParameters ≡ state (drop 8 records14) (bounds 0 0) (loopFrame loop14-7 (drop 8 records14) 0 [] (bounds 0 0) ∷ loopFrame loop14-6 (drop 7 records14) 0 [] (bounds 0 0) ∷ choiceFrame (some (bounds 1 90)) (bounds 0 0) ∷ loopFrame loop14-0 (drop 1 records14) 1 (bounds 2 91 ∷ []) (bounds 0 0) ∷ []) 10)
+    × (stateAfter 11 records14 zeroParameters ≡ state (drop 7 records14) (bounds 0 0) (loopFrame loop14-6 (drop 7 records14) 1 (bounds 1 1 ∷ []) (bounds 0 0) ∷ choiceFrame (some (bounds 1 90)) (bounds 0 0) ∷ loopFrame loop14-0 (drop 1 records14) 1 (bounds 2 91 ∷ []) (bounds 0 0) ∷ []) 11)
+    × (stateAfter 12 records14 zeroParameters ≡ state (drop 8 records14) (bounds 0 0) (loopFrame loop14-7 (drop 8 records14) 0 [] (bounds 0 0) ∷ loopFrame loop14-6 (drop 7 records14) 1 (bounds 1 1 ∷ []) (bounds 0 0) ∷ choiceFrame (some (bounds 1 90)) (bounds 0 0) ∷ loopFrame loop14-0 (drop 1 records14) 1 (bounds 2 91 ∷ []) (bounds 0 0) ∷ []) 12)
+    × (stateAfter 13 records14 zeroParameters ≡ state (drop 7 records14) (bounds 0 0) (loopFrame loop14-6 (drop 7 records14) 2 (bounds 2 2 ∷ []) (bounds 0 0) ∷ choiceFrame (some (bounds 1 90)) (bounds 0 0) ∷ loopFrame loop14-0 (drop 1 records14) 1 (bounds 2 91 ∷ []) (bounds 0 0) ∷ []) 13)
+    × (stateAfter 14 records14 zeroParameters ≡ state (drop 8 records14) (bounds 0 0) (loopFrame loop14-7 (drop 8 records14) 0 [] (bounds 0 0) ∷ loopFrame loop14-6 (drop 7 records14) 2 (bounds 2 2 ∷ []) (bounds 0 0) ∷ choiceFrame (some (bounds 1 90)) (bounds 0 0) ∷ loopFrame loop14-0 (drop 1 records14) 1 (bounds 2 91 ∷ []) (bounds 0 0) ∷ []) 14)
+    × (stateAfter 15 records14 zeroParameters ≡ state (drop 1 records14) (bounds 0 0) (loopFrame loop14-0 (drop 1 records14) 2 (bounds 4 182 ∷ []) (bounds 0 0) ∷ []) 15)
+    × (stateAfter 16 records14 zeroParameters ≡ state (drop 7 records14) (bounds 0 0) (loopFrame loop14-6 (drop 7 records14) 0 [] (bounds 0 0) ∷ choiceFrame (some (bounds 1 90)) (bounds 0 0) ∷ loopFrame loop14-0 (drop 1 records14) 2 (bounds 4 182 ∷ []) (bounds 0 0) ∷ []) 16)
+    × (stateAfter 17 records14 zeroParameters ≡ state (drop 7 records14) (bounds 0 0) (loopFrame loop14-6 (drop 7 records14) 1 (bounds 0 0 ∷ []) (bounds 0 0) ∷ choiceFrame (some (bounds 1 90)) (bounds 0 0) ∷ loopFrame loop14-0 (drop 1 records14) 2 (bounds 4 182 ∷ []) (bounds 0 0) ∷ []) 17)
+    × (stateAfter 18 records14 zeroParameters ≡ state (drop 7 records14) (bounds 0 0) (loopFrame loop14-6 (drop 7 records14) 2 (bounds 0 0 ∷ []) (bounds 0 0) ∷ choiceFrame (some (bounds 1 90)) (bounds 0 0) ∷ loopFrame loop14-0 (drop 1 records14) 2 (bounds 4 182 ∷ []) (bounds 0 0) ∷ []) 18)
+    × (stateAfter 19 records14 zeroParameters ≡ state (drop 1 records14) (bounds 0 0) (loopFrame loop14-0 (drop 1 records14) 3 (bounds 5 273 ∷ []) (bounds 0 0) ∷ []) 19)
+    × (stateAfter 20 records14 zeroParameters ≡ state (drop 7 records14) (bounds 0 0) (loopFrame loop14-6 (drop 7 records14) 0 [] (bounds 0 0) ∷ choiceFrame (some (bounds 1 90)) (bounds 0 0) ∷ loopFrame loop14-0 (drop 1 records14) 3 (bounds 5 273 ∷ []) (bounds 0 0) ∷ []) 20)
+    × (stateAfter 21 records14 zeroParameters ≡ state (drop 7 records14) (bounds 0 0) (loopFrame loop14-6 (drop 7 records14) 1 (bounds 0 0 ∷ []) (bounds 0 0) ∷ choiceFrame (some (bounds 1 90)) (bounds 0 0) ∷ loopFrame loop14-0 (drop 1 records14) 3 (bounds 5 273 ∷ []) (bounds 0 0) ∷ []) 21)
+    × (stateAfter 22 records14 zeroParameters ≡ state (drop 7 records14) (bounds 0 0) (loopFrame loop14-6 (drop 7 records14) 2 (bounds 0 0 ∷ []) (bounds 0 0) ∷ choiceFrame (some (bounds 1 90)) (bounds 0 0) ∷ loopFrame loop14-0 (drop 1 records14) 3 (bounds 5 273 ∷ []) (bounds 0 0) ∷ []) 22)
+    × (stateAfter 23 records14 zeroParameters ≡ state (drop 13 records14) (bounds 6 364) [] 22)
+    × (stateAfter 24 records14 zeroParameters ≡ state (drop 13 records14) (bounds 6 364) [] 22)
 unfolding computes
-states-14 = (refl, refl, refl, refl, refl, refl, refl)
+states-14 = (refl, refl, refl, refl, refl, refl, refl, refl, refl, refl, refl, refl, refl, refl, refl, refl, refl, refl, refl, refl, refl, refl, refl, refl, refl)
+
+-- 15. parameters, a negative factor, strides
+abbrev loop15-0 : Loop
+loop15-0 = loopOf 0 0 3 (form (pos 0) (pos 0 ∷ pos 0 ∷ pos 0 ∷ []) (pos 1 ∷ pos 0 ∷ pos 0 ∷ pos 0 ∷ [])) (form (pos 0) (pos 0 ∷ pos 0 ∷ pos 0 ∷ []) (pos 1 ∷ pos 0 ∷ pos 2 ∷ pos 0 ∷ []))
+
+abbrev loop15-2 : Loop
+loop15-2 = loopOf 2 0 2 (form (pos 1) (negsuc 0 ∷ pos 0 ∷ pos 0 ∷ []) (pos 0 ∷ pos 0 ∷ pos 0 ∷ pos 0 ∷ [])) (form (pos 20) (negsuc 0 ∷ pos 0 ∷ pos 0 ∷ []) (pos 0 ∷ negsuc 0 ∷ pos 0 ∷ pos 0 ∷ []))
+
+abbrev records15 : List Record
+records15 = loopRecord loop15-0 ∷ workRecord 1 2 ∷ loopRecord loop15-2 ∷ workRecord 5 6 ∷ endRecord ∷ endRecord ∷ []
+
+pub states-15 :
+    (stateAfter 0 records15 (negsuc 3 ∷ pos 7 ∷ pos 3 ∷ pos 0 ∷ []) ≡ state (drop 0 records15) (bounds 0 0) [] 0)
+    × (stateAfter 1 records15 (negsuc 3 ∷ pos 7 ∷ pos 3 ∷ pos 0 ∷ []) ≡ state (drop 1 records15) (bounds 0 0) (loopFrame loop15-0 (drop 1 records15) 0 [] (bounds 0 0) ∷ []) 1)
+    × (stateAfter 2 records15 (negsuc 3 ∷ pos 7 ∷ pos 3 ∷ pos 0 ∷ []) ≡ state (drop 3 records15) (bounds 0 0) (loopFrame loop15-2 (drop 3 records15) 0 [] (bounds 3 4) ∷ loopFrame loop15-0 (drop 1 records15) 0 [] (bounds 0 0) ∷ []) 2)
+    × (stateAfter 3 records15 (negsuc 3 ∷ pos 7 ∷ pos 3 ∷ pos 0 ∷ []) ≡ state (drop 1 records15) (bounds 0 0) (loopFrame loop15-0 (drop 1 records15) 1 (bounds 38 46 ∷ []) (bounds 0 0) ∷ []) 3)
+    × (stateAfter 4 records15 (negsuc 3 ∷ pos 7 ∷ pos 3 ∷ pos 0 ∷ []) ≡ state (drop 3 records15) (bounds 0 0) (loopFrame loop15-2 (drop 3 records15) 0 [] (bounds 3 4) ∷ loopFrame loop15-0 (drop 1 records15) 1 (bounds 38 46 ∷ []) (bounds 0 0) ∷ []) 4)
+    × (stateAfter 5 records15 (negsuc 3 ∷ pos 7 ∷ pos 3 ∷ pos 0 ∷ []) ≡ state (drop 6 records15) (bounds 114 138) [] 4)
+    × (stateAfter 6 records15 (negsuc 3 ∷ pos 7 ∷ pos 3 ∷ pos 0 ∷ []) ≡ state (drop 6 records15) (bounds 114 138) [] 4)
+unfolding computes
+states-15 = (refl, refl, refl, refl, refl, refl, refl)
