@@ -1,5 +1,5 @@
 # `make test` is the gate; the other targets are its parts, for the desk.
-.PHONY: test check reference examples format
+.PHONY: test check reference examples cases format
 
 test:
 	bash .ci/run
@@ -15,6 +15,10 @@ reference:
 # Make the computed examples anew from the independent reckoning, and compare them with those that are proved.
 examples:
 	python3 reference/examples.py --check crates/meaning/proofs
+
+# Make the stored cases anew from the independent reckoning, and compare them with those that the program reads.
+cases:
+	python3 reference/sheet_cases.py crates/vectors/data/sheets --check
 
 format:
 	rt fmt

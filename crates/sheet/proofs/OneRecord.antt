@@ -1,0 +1,121 @@
+-- One record of a sheet: what the reader makes of it, from its head, its body and the numbers of what is open.
+use mathlib.Core.Path.{_≡_, refl, sym, ap, _∙_}
+use mathlib.Core.List.{List, []}
+use mathlib.Core.Bool.{Bool, true, false}
+use mathlib.Core.Option.{Option, none, some}
+use Prim.Native.Nat.{ℕ, _+_, _-_, _<_, _≤_}
+use native.Mathlib.Nat.{add-sub-cancel-left}
+use native.Mathlib.Omega.{arith}
+use lib.ListN.{length, getD, take, drop, length-drop}
+use lib.Seq.{length-take-le}
+use lib.Dec.{leb}
+use Rattle.meaning.specs.Record.{Kind, workKind, loopKind, endKind, choiceKind, nextArmKind, kindOf, bodyLength, recordLength, kind, decodeRecord, Open, fieldsInRange, openAfter}
+use Rattle.meaning.specs.Reader.{Result, ok, refused, require, orRefuse, andThen, Accepted, accept, readRecord, Head, headOf, headAt}
+use Rattle.meaning.proofs.Logic.{refused-is-not-ok}
+use Rattle.meaning.proofs.Accepted.{kind-decodeRecord}
+use Rattle.meaning.proofs.RoundTrip.{readRecord-accept}
+use Rattle.sheet.specs.declared.nesting.Nesting.{Nesting}
+use Rattle.sheet.specs.declared.nesting.Passed.{Passed}
+use Rattle.sheet.specs.Nestings.{nestingOf, fieldsPassAs, fieldsPass, openAfterAs, openAfterKind, isThere, mayStand}
+use Rattle.sheet.specs.Answers.{stepOf}
+use Rattle.sheet.proofs.Heads.{head-there, Stands}
+
+-- ---- refusals 3 and 5
+
+-- a record's fields do not matter to what is open after it
+open-by-kind : (os : List Open) (k : Kind) (body : List ℕ) → openAfter os (decodeRecord k body) ≡ openAfter os (decodeRecord k [])
+unfolding openAfter decodeRecord
+open-by-kind os workKind body = refl
+open-by-kind os loopKind body = refl
+open-by-kind os endKind body = refl
+open-by-kind os choiceKind body = refl
+open-by-kind os nextArmKind body = refl
+
+module _ (at : ℕ) (os : List Open) (kindByte : ℕ) (k : Kind) (named : kindOf kindByte ≡ some k) (body : List ℕ) where
+  abbrev result : Result Passed
+  result = stepOf (accept at os (decodeRecord k body))
+
+  -- the tests by the kind's number are those of the record
+  pub fields-by-number : fieldsInRange os (decodeRecord k body) ≡ fieldsPass os kindByte body
+  unfolding fieldsPass fieldsPassAs
+  fields-by-number = sym (ap (fieldsPassAs os body) named)
+
+  pub opens-by-number : openAfter os (decodeRecord k body) ≡ openAfterKind os kindByte
+  unfolding openAfterKind openAfterAs
+  opens-by-number = open-by-kind os k body ∙ sym (ap (openAfterAs os) named)
+
+  pub refused-3 : false ≡ fieldsPass os kindByte body → refused 3 at ≡ result
+  unfolding accept require stepOf
+  refused-3 f =
+      sym (ap (λ (b : Bool). stepOf (require b 3 at (andThen (orRefuse (openAfter os (decodeRecord k body)) 5 at) λ after. ok (record { accepted = decodeRecord k body; after = after })))) (fields-by-number ∙ sym f))
+
+  module _ (f : true ≡ fieldsPass os kindByte body) where
+    with-open : (o : Option (List Open)) → openAfterKind os kindByte ≡ o → accept at os (decodeRecord k body)
+        ≡ andThen (orRefuse o 5 at) λ after. ok (record { accepted = decodeRecord k body; after = after })
+    unfolding accept require
+    with-open o e =
+        λ i. require ((fields-by-number ∙ sym f) i) 3 at (andThen (orRefuse ((opens-by-number ∙ e) i) 5 at) λ after. ok (record { accepted = decodeRecord k body; after = after }))
+
+    pub refused-5 : false ≡ mayStand os kindByte → refused 5 at ≡ result
+    unfolding mayStand isThere
+    refused-5 m = go (openAfterKind os kindByte) refl
+      where
+        go : (o : Option (List Open)) → openAfterKind os kindByte ≡ o → refused 5 at ≡ result
+        go (some us) e = absurd (let z : false ≡ true = m ∙ ap isThere e in let w : _≡_ {A = ℕ} 0 1 = cc in omega arith)
+        go none e = unfold andThen orRefuse stepOf in sym (ap stepOf (with-open none e))
+
+    pub accepted-step : true ≡ mayStand os kindByte → (n : Nesting) → ((us : List Open) → openAfterKind os kindByte ≡ some us → n ≡ nestingOf us) → length body ≡ bodyLength k →
+        ok (record { length = 1 + length body; after = n }) ≡ result
+    unfolding mayStand isThere
+    accepted-step m n after long = go (openAfterKind os kindByte) refl
+      where
+        go : (o : Option (List Open)) → openAfterKind os kindByte ≡ o → ok (record { length = 1 + length body; after = n }) ≡ result
+        go none e = absurd (let z : true ≡ false = m ∙ ap isThere e in let w : _≡_ {A = ℕ} 0 1 = cc in omega arith)
+        go (some us) e = unfold andThen orRefuse stepOf recordLength in
+            (λ i. ok (record { length = 1 + (long ∙ ap bodyLength (sym (kind-decodeRecord k body))) i; after = after us e i })) ∙ sym (ap stepOf (with-open (some us) e))
+
+-- ---- refusals 2 and 1
+
+-- the record reader and the reader refuse together
+refused-alike : {A B : Type 0} (o : Option Kind) (b : Kind → Bool) (f : Kind → A) (g : Kind → Result B) (at number place : ℕ) →
+    (andThen (orRefuse o 2 at) λ k. require (b k) 1 at (ok (f k))) ≡ refused number place →
+    (andThen (orRefuse o 2 at) λ k. require (b k) 1 at (g k)) ≡ refused number place
+unfolding andThen orRefuse require
+refused-alike {A} {B} none b f g at number place e =
+    let p : 2 ≡ number = cc in let q : at ≡ place = cc in λ i. refused (p i) (q i)
+refused-alike {A} {B} (some k) b f g at number place e = go (b k) e
+  where
+    go : (c : Bool) → require c 1 at (ok (f k)) ≡ refused number place → require c 1 at (g k) ≡ refused number place
+    go true h = refused-is-not-ok (sym h)
+    go false h = let p : 1 ≡ number = cc in let q : at ≡ place = cc in λ i. refused (p i) (q i)
+
+module _ (sheet : List ℕ) (at : ℕ) (os : List Open) where
+  abbrev whole : Result Accepted
+  whole = readRecord at os (getD sheet at 0) (drop (at + 1) sheet)
+
+  pub read-refused : at < length sheet → (number place : ℕ) → headAt sheet at ≡ refused number place → refused number place ≡ stepOf whole
+  unfolding headOf readRecord stepOf
+  read-refused inside number place e =
+      let bytes : List ℕ = drop (at + 1) sheet in
+      sym (ap stepOf (refused-alike (kindOf (getD sheet at 0)) (λ k. leb (bodyLength k) (length bytes)) _ (λ k. accept at os (decodeRecord k (take (bodyLength k) bytes))) at number place (sym (head-there sheet at inside) ∙ e)))
+
+  -- the part of the sheet that a head names is its record's body
+  module _ (h : Head) (s : Stands sheet at h) where
+    abbrev part : List ℕ
+    part = take (h .bodyOffset + h .bodyLength - h .bodyOffset) (drop (h .bodyOffset) sheet)
+
+    part-is : part ≡ take (bodyLength (s .kind)) (drop (at + 1) sheet)
+    part-is =
+        ap (λ (n : ℕ). take n (drop (h .bodyOffset) sheet)) (add-sub-cancel-left (h .bodyOffset) (h .bodyLength))
+        ∙ (λ i. take (s .long i) (drop (s .offset i) sheet))
+
+    room : bodyLength (s .kind) ≤ length (drop (at + 1) sheet)
+    room = omega (arith, length-drop (at + 1) sheet, s .fits, s .offset, s .long)
+
+    pub part-long : length part ≡ bodyLength (s .kind)
+    part-long = ap (λ (l : List ℕ). length l) part-is ∙ length-take-le (bodyLength (s .kind)) (drop (at + 1) sheet) room
+
+    pub read-found : accept at os (decodeRecord (s .kind) part) ≡ whole
+    read-found =
+        ap (λ (l : List ℕ). accept at os (decodeRecord (s .kind) l)) part-is
+        ∙ sym (readRecord-accept at os (getD sheet at 0) (drop (at + 1) sheet) (s .kind) (s .named) room)

@@ -1,0 +1,48 @@
+use native.Mathlib.Omega.{arith}
+use borrow.Author.Tests.{ltb-true, ltb-false}
+use mathlib.Core.Logic.{⊎-elim}
+use Rattle.sheet.proofs.Heads.{head-end, head-no-kind, head-short, head-found}
+use borrow.Author.Needs.{needs}
+use Rattle.sheet.proofs.head.head_at.Statement.{statement}
+use Rattle.sheet.proofs.head.head_at.Tie as tie
+
+returns : tie.Need-returns
+returns c = head-end (c .before .before .args .sheet .now) (c .before .before .args .at) (c .if1 .taken)
+
+shared-slice-read-kind : tie.Need-shared-slice-read-kind
+shared-slice-read-kind c = search needs
+
+returns-2 : tie.Need-returns-2
+returns-2 c = head-no-kind (c .before .before .before .before .args .sheet .now) (c .before .before .before .before .args .at) (omega arith) (λ above below. ⊎-elim (λ w. omega arith) (λ w. omega (arith, ltb-true)) (c .if2 .came))
+
+body-length-requires : tie.Need-body-length-requires
+body-length-requires c κs = search needs
+
+sub-if4 : tie.Need-sub-if4
+sub-if4 c = search needs
+
+sub-if4-2 : tie.Need-sub-if4-2
+sub-if4-2 c = search needs
+
+returns-3 : tie.Need-returns-3
+returns-3 c = head-short (c .before .before .before .before .before .before .before .args .sheet .now) (c .before .before .before .before .before .before .before .args .at) (omega arith) (c .before .body-length .result) (c .before .body-length .ensures) (omega arith) (omega (arith, ltb-false)) (c .if4 .taken)
+
+add-t5 : tie.Need-add-t5
+add-t5 c = search needs
+
+returns-4 : tie.Need-returns-4
+returns-4 c = head-found (c .before .before .before .before .before .before .before .args .sheet .now) (c .before .before .before .before .before .before .before .args .at) (omega arith) (c .before .body-length .result) (c .before .body-length .ensures) (omega arith) (omega (arith, ltb-false)) (c .if4 .left)
+
+pub head-at-spec : {M : Type 1} → statement M
+head-at-spec =
+    tie.close
+    (tie.spec
+    returns
+    shared-slice-read-kind
+    returns-2
+    body-length-requires
+    sub-if4
+    sub-if4-2
+    returns-3
+    add-t5
+    returns-4)

@@ -1,0 +1,61 @@
+-- The number and the values that document 01 gives to each case of the answers.
+use mathlib.Core.List.{List, _++_, map}
+use mathlib.Core.Option.{Option, none, some}
+use Prim.Native.Nat.{ℕ, _-_}
+use lib.ListN.{length, replicate}
+use Rattle.meaning.specs.Record as M
+use Rattle.meaning.specs.Record.{recordLength}
+use Rattle.meaning.specs.Reader.{Result, ok, refused, Accepted, Head}
+use Rattle.sheet.specs.declared.head.HeadAnswer.{HeadAnswer}
+use Rattle.sheet.specs.declared.head.HeadAnswer.the-variants as head
+use Rattle.sheet.specs.declared.reader.ReadAnswer.{ReadAnswer}
+use Rattle.sheet.specs.declared.reader.ReadAnswer.the-variants as read
+use Rattle.sheet.specs.declared.nesting.Passed.{Passed}
+use Rattle.sheet.specs.declared.nesting.Step.{Step}
+use Rattle.sheet.specs.declared.nesting.Step.the-variants as step
+use Rattle.sheet.specs.declared.writer.WriteAnswer.{WriteAnswer}
+use Rattle.sheet.specs.declared.writer.WriteAnswer.the-variants as write
+use Rattle.sheet.specs.declared.record.Record.{Record}
+use Rattle.sheet.specs.View.{blankRecord, recordIn}
+use Rattle.sheet.specs.Nestings.{nestingOf}
+
+-- the record reader's answer: a head, the end, or a refusal with its number and its place
+abbrev pub headResult : HeadAnswer → Result (Option Head)
+headResult (head.Found h) = ok (some (record { kindNumber = h .kind; bodyOffset = h .offset; bodyLength = h .length }))
+headResult head.End = ok none
+headResult (head.Refused r) = refused (r .number) (r .offset)
+
+-- one record's answer: passed, or a refusal
+abbrev pub stepResult : Step → Result Passed
+stepResult (step.Accepted p) = ok p
+stepResult (step.Refused r) = refused (r .number) (r .offset)
+
+-- what a step keeps of an accepted record: its length, and what is open after it
+unfoldable pub stepOf : Result Accepted → Result Passed
+stepOf (ok a) = ok (record { length = recordLength (a .accepted); after = nestingOf (a .after) })
+stepOf (refused number place) = refused number place
+
+-- the reader's answer: a count, or a refusal
+abbrev pub countResult : ReadAnswer → Result ℕ
+countResult (read.Count n) = ok n
+countResult (read.Refused r) = refused (r .number) (r .offset)
+
+-- how many records there are, or the refusal
+unfoldable pub counted : Result (List M.Record) → Result ℕ
+counted (ok rs) = ok (length rs)
+counted (refused number place) = refused number place
+
+-- a count, or 0 for a refusal
+unfoldable pub orZero : Result ℕ → ℕ
+orZero (ok n) = n
+orZero (refused number place) = 0
+
+-- the records, and blank ones up to 64
+unfoldable pub listed : Result (List M.Record) → List Record
+listed (ok rs) = map recordIn rs ++ replicate (64 - length rs) (blankRecord 0)
+listed (refused number place) = replicate 64 (blankRecord 0)
+
+-- the writer's answer: the sheet's length, or a refusal
+abbrev pub writeResult : WriteAnswer → Result ℕ
+writeResult (write.Length n) = ok n
+writeResult (write.Refused r) = refused (r .number) (r .offset)

@@ -1,0 +1,6 @@
+pub mod View
+pub mod Forms
+pub mod Fits
+pub mod Nestings
+pub mod Answers
+pub mod Writing

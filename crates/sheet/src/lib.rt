@@ -1,0 +1,11 @@
+// Sheets: records and forms, the record reader, the reader and the writer.
+mod encode;
+pub mod form;
+pub mod head;
+pub mod loops;
+mod nesting;
+pub mod number;
+pub mod reader;
+pub mod record;
+pub mod refusal;
+pub mod writer;

@@ -1,0 +1,73 @@
+// A stored case: its header, and the records that stand in it.
+use sheet::number::byte_at;
+use sheet::number::signed8_at;
+use sheet::number::signed16_at;
+use sheet::number::unsigned16_at;
+use sheet::record::PackedForm;
+use sheet::record::Record;
+
+// What is called, the refusal's number, lengths, and the place, count or length that is expected.
+pub(crate) struct Case {
+    pub which: u8,
+    pub number: u8,
+    pub sheet: usize,
+    pub entries: usize,
+    pub value: usize,
+    pub count: usize,
+    pub buffer: usize,
+}
+
+pub(crate) fn case_of(header: &[u8]) -> Case {
+    Case {
+        which: byte_at(header, 0),
+        number: byte_at(header, 1),
+        sheet: unsigned16_at(header, 2) as usize,
+        entries: unsigned16_at(header, 4) as usize,
+        value: unsigned16_at(header, 6) as usize,
+        count: unsigned16_at(header, 8) as usize,
+        buffer: unsigned16_at(header, 10) as usize,
+    }
+}
+
+// How many bytes the entries take; no case has more than 64.
+pub(crate) fn entries_length(case: Case) -> usize {
+    let entries = case.entries;
+    if 64 < entries {
+        return 0;
+    }
+    29 * entries
+}
+
+// The form from an offset of an entry.
+fn form_in(entry: &[u8], at: u8) -> PackedForm {
+    let from = at as usize;
+    let constant = signed16_at(entry, from);
+    let i1 = signed8_at(entry, from + 2);
+    let i2 = signed8_at(entry, from + 3);
+    let i3 = signed8_at(entry, from + 4);
+    let p1 = signed8_at(entry, from + 5);
+    let p2 = signed8_at(entry, from + 6);
+    let p3 = signed8_at(entry, from + 7);
+    let p4 = signed8_at(entry, from + 8);
+    PackedForm {
+        constant: constant,
+        index: [i1, i2, i3],
+        parameter: [p1, p2, p3, p4],
+    }
+}
+
+// The record in an entry of 29 bytes.
+pub(crate) fn record_in(entry: &[u8]) -> Record {
+    let lower = form_in(entry, 11);
+    let upper = form_in(entry, 20);
+    Record {
+        kind: byte_at(entry, 0),
+        least: unsigned16_at(entry, 1),
+        most: unsigned16_at(entry, 3),
+        start: unsigned16_at(entry, 5),
+        step: unsigned16_at(entry, 7),
+        stride: unsigned16_at(entry, 9),
+        lower: lower,
+        upper: upper,
+    }
+}

@@ -1,0 +1,141 @@
+// Whether the reader and the writer do as reckoned.
+use crate::cases::Case;
+use crate::cases::entries_length;
+use crate::cases::record_in;
+use sheet::reader::ReadAnswer;
+use sheet::reader::read_sheet;
+use sheet::record::PackedForm;
+use sheet::record::Record;
+use sheet::writer::WriteAnswer;
+use sheet::writer::write_sheet;
+
+fn same_form(a: PackedForm, b: PackedForm) -> bool {
+    let index = a.index[0] == b.index[0] && a.index[1] == b.index[1] && a.index[2] == b.index[2];
+    let first = a.parameter[0] == b.parameter[0] && a.parameter[1] == b.parameter[1];
+    let second = a.parameter[2] == b.parameter[2] && a.parameter[3] == b.parameter[3];
+    a.constant == b.constant && index && first && second
+}
+
+fn same_record(a: Record, b: Record) -> bool {
+    let work = a.kind == b.kind && a.least == b.least && a.most == b.most;
+    let costs = a.start == b.start && a.step == b.step && a.stride == b.stride;
+    let lower = a.lower;
+    let upper = a.upper;
+    let other_lower = b.lower;
+    let other_upper = b.upper;
+    work && costs && same_form(lower, other_lower) && same_form(upper, other_upper)
+}
+
+// The record of entry k, blank past the entries.
+fn entry_at(entries: &[u8], k: usize) -> Record {
+    if 64 < k || entries.len() < 29 * k + 29 {
+        return Record::blank(0);
+    }
+    record_in(&entries[29 * k..29 * k + 29])
+}
+
+// The 64 records that the entries make, blank ones after them.
+fn records_in(entries: &[u8]) -> [Record; 64] {
+    let blank = Record::blank(0);
+    let mut records: [Record; 64] = [blank; 64];
+    let mut k: usize = 0;
+    while k < 64 {
+        records[k] = entry_at(entries, k);
+        k += 1;
+    }
+    records
+}
+
+fn same_records(a: [Record; 64], b: [Record; 64]) -> bool {
+    let mut k: usize = 0;
+    while k < 64 {
+        if !same_record(a[k], b[k]) {
+            return false;
+        }
+        k += 1;
+    }
+    true
+}
+
+fn reader_agrees(case: Case, sheet: &[u8], entries: &[u8]) -> bool {
+    let listing = read_sheet(sheet);
+    let records = listing.records;
+    if !same_records(records, records_in(entries)) {
+        return false;
+    }
+    let answer = listing.answer;
+    match answer {
+        ReadAnswer::Count(n) => case.number == 0 && n == case.value,
+        ReadAnswer::Refused(r) => r.number == (case.number as u32) && r.offset == case.value,
+    }
+}
+
+fn same_bytes(a: &[u8], b: &[u8], count: usize) -> bool {
+    if a.len() < count || b.len() < count {
+        return false;
+    }
+    let mut i: usize = 0;
+    while i < count {
+        if a[i] != b[i] {
+            return false;
+        }
+        i += 1;
+    }
+    true
+}
+
+// Whether the buffer holds what it was filled with, from a position on.
+fn still_filled(buffer: &[u8], from: usize) -> bool {
+    let mut i = from;
+    while i < buffer.len() {
+        if buffer[i] != 167 {
+            return false;
+        }
+        i += 1;
+    }
+    true
+}
+
+// Writes into the first bytes of a space.
+fn write_into(records: [Record; 64], count: usize, space: &mut [u8], length: usize) -> WriteAnswer {
+    if space.len() < length {
+        return WriteAnswer::Length(0);
+    }
+    write_sheet(records, count, &mut space[..length])
+}
+
+fn writer_agrees(case: Case, sheet: &[u8], entries: &[u8]) -> bool {
+    let mut space: [u8; 2048] = [167; 2048];
+    let length = case.buffer;
+    let answer = write_into(records_in(entries), case.count, &mut space, length);
+    match answer {
+        WriteAnswer::Length(n) => {
+            let answered = case.number == 0 && n == case.value;
+            answered && same_bytes(&space, sheet, n) && still_filled(&space, n)
+        }
+        WriteAnswer::Refused(r) => {
+            let answered = r.number == (case.number as u32) && r.offset == case.value;
+            answered && still_filled(&space, 0)
+        }
+    }
+}
+
+// The first bytes of a space.
+fn front(space: &[u8], length: usize) -> &[u8] {
+    if space.len() < length {
+        return &space[..0];
+    }
+    &space[..length]
+}
+
+// Whether a case comes out as reckoned; its sheet and its entries stand at the start of the two spaces.
+pub(crate) fn agrees(case: Case, sheets: &[u8], entries: &[u8]) -> bool {
+    let which = case.which;
+    let sheet = front(sheets, case.sheet);
+    let own = front(entries, entries_length(case));
+    if which == 1 {
+        reader_agrees(case, sheet, own)
+    } else {
+        writer_agrees(case, sheet, own)
+    }
+}

@@ -1,0 +1,98 @@
+// Runs the stored cases of the reader and the writer, and says how many there are and how many differ.
+mod cases;
+mod compare;
+
+use crate::cases::case_of;
+use crate::cases::entries_length;
+use crate::compare::agrees;
+use libc::STDOUT_FILENO;
+
+// Cases met so far, and how many of them came out otherwise than reckoned.
+struct Tally {
+    readings: u64,
+    writings: u64,
+    differing: u64,
+    more: bool,
+}
+
+// The tally with one case more.
+fn counted(tally: Tally, which: u8, agrees: bool) -> Tally {
+    let mut next = tally;
+    if which == 1 {
+        next.readings = std::num::wrapping_add_u64(next.readings, 1);
+    } else {
+        next.writings = std::num::wrapping_add_u64(next.writings, 1);
+    }
+    if !agrees {
+        next.differing = std::num::wrapping_add_u64(next.differing, 1);
+    }
+    next
+}
+
+// The next bytes of the file, as many as asked for; whether they were there.
+fn filled(fd: i32, space: &mut [u8], length: usize) -> bool {
+    if space.len() < length {
+        return false;
+    }
+    io::read_full(fd, &mut space[..length]) == length
+}
+
+// The next case of the file, or no more.
+fn run_case(fd: i32, tally: Tally) -> Tally {
+    let mut last = tally;
+    last.more = false;
+    let mut header: [u8; 12] = [0; 12];
+    if !filled(fd, &mut header, 12) {
+        return last;
+    }
+    let case = case_of(&header);
+    let which = case.which;
+    let length = case.sheet;
+    let entries_length = entries_length(case);
+    let mut sheet: [u8; 4096] = [0; 4096];
+    let mut entries: [u8; 4096] = [0; 4096];
+    if !filled(fd, &mut sheet, length) || !filled(fd, &mut entries, entries_length) {
+        return counted(last, which, false);
+    }
+    counted(tally, which, agrees(case, &sheet, &entries))
+}
+
+// Every case of the file; no file has more than a million.
+fn run_all(fd: i32) -> Tally {
+    let mut tally = Tally {
+        readings: 0,
+        writings: 0,
+        differing: 0,
+        more: true,
+    };
+    let mut turns: usize = 1000000;
+    while 0 < turns {
+        let next = run_case(fd, tally);
+        tally = next;
+        if !tally.more {
+            return tally;
+        }
+        turns -= 1;
+    }
+    tally
+}
+
+fn print_line(text: &[u8], number: u64) {
+    io::write_all(STDOUT_FILENO, text);
+    io::print_decimal(STDOUT_FILENO, number);
+    io::write_all(STDOUT_FILENO, b"\n");
+}
+
+fn main() {
+    let path = b"sheets";
+    let fd = os::open_read(path);
+    if fd < 0 {
+        os::fail(path);
+        return;
+    }
+    let tally = run_all(fd);
+    libc::close(fd);
+    print_line(b"sheets read: ", tally.readings);
+    print_line(b"sheets written: ", tally.writings);
+    print_line(b"otherwise than reckoned: ", tally.differing);
+}

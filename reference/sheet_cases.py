@@ -1,0 +1,126 @@
+"""Stored cases of the reader and the writer, for the program that runs them.
+
+    python3 sheet_cases.py FILE [--check]
+
+writes FILE, or with --check compares it with what stands there. The file is
+one case after the other, numbers low byte first:
+
+    1  which: 1 the reader, 2 the writer
+    1  the refusal's number, 0 if there is none
+    2  length of the sheet
+    2  number of records that follow
+    2  place of the refusal, or the count (reader), or the length (writer)
+    2  the count that the writer is given
+    2  length of the writer's buffer
+    then the sheet, then the records, 29 bytes each: kind, least, most, start,
+    step, stride, lower form, upper form.
+"""
+
+import os
+from random import Random
+
+import known
+import readings
+from generate import SIZES, damaged_sheet, valid_records
+from hostile import hostile_sheet
+from records import Refusal, encode_all, encode_form
+from sheet import RawRecord, raw, read, write
+from stored import main, numbers
+from writer_cases import WRITER_CASES, WriterCase
+
+HERE = os.path.dirname(os.path.abspath(__file__))
+SEED = 2049
+# of each size
+VALID_SHEETS = 50
+DAMAGED_SHEETS = 180
+HOSTILE_SHEETS = 60
+RANDOM_WRITES = 200
+READER = 1
+WRITER = 2
+
+
+def entry_bytes(entry: RawRecord) -> bytes:
+    costs = numbers(entry.least, entry.most, entry.start, entry.step, entry.stride)
+    return bytes([entry.kind]) + costs + encode_form(entry.lower) + encode_form(entry.upper)
+
+
+def reader_case(sheet: bytes) -> bytes:
+    """A sheet, and its records or its refusal."""
+    result = read(sheet)
+    if isinstance(result, Refusal):
+        entries: list[RawRecord] = []
+        number, value = result
+    else:
+        entries = [raw(record) for record in result]
+        number, value = 0, len(entries)
+    head = bytes([READER, number]) + numbers(len(sheet), len(entries), value, 0, 0)
+    return head + sheet + b"".join(map(entry_bytes, entries))
+
+
+def writer_case(case: WriterCase) -> bytes:
+    """What the writer is given, and the sheet that it writes or its refusal."""
+    result = write(case.entries, case.count, case.buffer)
+    if isinstance(result.answer, Refusal):
+        number, value = result.answer
+        sheet = b""
+    else:
+        number, value = 0, result.answer
+        sheet = result.buffer[:value]
+    head = bytes([WRITER, number])
+    head += numbers(len(sheet), len(case.entries), value, case.count, len(case.buffer))
+    return head + sheet + b"".join(map(entry_bytes, case.entries))
+
+
+def truncations() -> list[bytes]:
+    """Every beginning of each sheet with known figures."""
+    sheets = [case.sheet() for case in known.MARKED]
+    return [sheet[:length] for sheet in sheets for length in range(len(sheet) + 1)]
+
+
+def kinds() -> list[bytes]:
+    """Every byte as a kind, alone and with a long body."""
+    return [bytes([kind]) + bytes(length) for kind in range(256) for length in (0, 24)]
+
+
+def random_sheets(random: Random) -> list[bytes]:
+    made: list[bytes] = []
+    for size in SIZES.values():
+        made += [encode_all(valid_records(random, size)) for _ in range(VALID_SHEETS)]
+        made += [damaged_sheet(random, size) for _ in range(DAMAGED_SHEETS)]
+        made += [hostile_sheet(random) for _ in range(HOSTILE_SHEETS)]
+    return made
+
+
+def random_writes(random: Random) -> list[WriterCase]:
+    """Records of valid sheets, some with one field changed, into buffers around their length."""
+    made: list[WriterCase] = []
+    for _ in range(RANDOM_WRITES):
+        entries = [raw(record) for record in valid_records(random, SIZES["middle"])]
+        length = max(0, len(encode_entries(entries)) + random.randint(-2, 3))
+        if entries and random.random() < 0.4:
+            at = random.randrange(len(entries))
+            field = random.choice(["kind", "least", "most", "start", "step", "stride"])
+            value = random.choice([0, 1, 6, 255] if field == "kind" else [0, 1, 1001, 4096])
+            entries[at] = entries[at]._replace(**{field: value})
+        made.append(WriterCase("random", entries, len(entries), bytes(length)))
+    return made
+
+
+def encode_entries(entries: list[RawRecord]) -> bytes:
+    """The sheet of entries that the writer takes."""
+    result = write(entries, len(entries), bytes(1600))
+    assert not isinstance(result.answer, Refusal)
+    return result.buffer[:result.answer]
+
+
+def all_cases() -> bytes:
+    random = Random(SEED)
+    lines = readings.parse_file(os.path.join(HERE, "readings.txt"))
+    sheets = [line.sheet for line in lines]
+    sheets += truncations() + kinds() + random_sheets(random)
+    writes = WRITER_CASES + random_writes(random)
+    return b"".join(map(reader_case, sheets)) + b"".join(map(writer_case, writes))
+
+
+if __name__ == "__main__":
+    main(all_cases)

@@ -1,0 +1,25 @@
+"""What the generators of stored cases share: numbers in bytes, and writing or comparing a file."""
+
+import argparse
+import sys
+from typing import Callable
+
+
+def numbers(*values: int) -> bytes:
+    return b"".join(value.to_bytes(2, "little") for value in values)
+
+
+def main(all_cases: Callable[[], bytes]) -> None:
+    """Writes the file that is named, or with --check compares it."""
+    parser = argparse.ArgumentParser()
+    parser.add_argument("file")
+    parser.add_argument("--check", action="store_true", help="compare, and write nothing")
+    arguments = parser.parse_args()
+    data = all_cases()
+    if arguments.check:
+        with open(arguments.file, "rb") as file:
+            same = file.read() == data
+        print(f"{arguments.file}: {'as reckoned' if same else 'differs'}")
+        sys.exit(0 if same else 1)
+    with open(arguments.file, "wb") as file:
+        file.write(data)
