@@ -19,6 +19,8 @@ examples:
 # Make the stored cases anew from the independent reckoning, and compare them with those that the program reads.
 cases:
 	python3 reference/sheet_cases.py crates/vectors/data/sheets --check
+	python3 reference/loop_cases.py crates/vectors/data/loops --check
+	python3 reference/figure_cases.py crates/vectors/data/figures --check
 
 format:
 	rt fmt

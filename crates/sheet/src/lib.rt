@@ -3,7 +3,7 @@ mod encode;
 pub mod form;
 pub mod head;
 pub mod loops;
-mod nesting;
+pub mod nesting;
 pub mod number;
 pub mod reader;
 pub mod record;

@@ -23,7 +23,7 @@ use crate::record::WORK;
 use crate::refusal::Refusal;
 
 // How many records are open, how many of these are loops, and which: bit 0 of `loops` is 1 where the innermost is a loop, and so on outward.
-pub(crate) struct Nesting {
+pub struct Nesting {
     pub size: usize,
     pub depth: usize,
     pub loops: u64,
@@ -100,7 +100,7 @@ fn fields_in_range(kind: u8, body: &[u8], depth: usize) -> bool
 }
 
 impl Nesting {
-    pub(crate) fn nothing() -> Nesting
+    pub fn nothing() -> Nesting
         ensures { λ r. ⌜ r ≡ nestingOf [] ⌝ }
     {
         Nesting {
@@ -130,7 +130,7 @@ impl Nesting {
     }
 
     // What is open after a record that may stand here.
-    fn after(self, kind: u8) -> Nesting
+    pub fn after(self, kind: u8) -> Nesting
         ensures { λ r. ⌜ ((os us : List Open) → self ≡ nestingOf os → openAfterKind os kind ≡ some us → r ≡ nestingOf us) ⌝ }
     {
         if kind == LOOP {

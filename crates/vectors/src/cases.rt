@@ -1,10 +1,21 @@
 // A stored case: its header, and the records that stand in it.
+use crate::calls::CALL;
+use crate::plans::LINE;
+use crate::plans::PARAMETERS;
 use sheet::number::byte_at;
 use sheet::number::signed8_at;
 use sheet::number::signed16_at;
 use sheet::number::unsigned16_at;
 use sheet::record::PackedForm;
 use sheet::record::Record;
+
+pub(crate) const READER: u8 = 1;
+
+pub(crate) const WRITER: u8 = 2;
+
+pub(crate) const PLAN: u8 = 3;
+
+pub(crate) const CALLS: u8 = 4;
 
 // What is called, the refusal's number, lengths, and the place, count or length that is expected.
 pub(crate) struct Case {
@@ -29,11 +40,17 @@ pub(crate) fn case_of(header: &[u8]) -> Case {
     }
 }
 
-// How many bytes the entries take; no case has more than 64.
+// How many bytes follow the sheet: records, parameters and the lines of loops, or a call; no case has more than 64.
 pub(crate) fn entries_length(case: Case) -> usize {
     let entries = case.entries;
     if 64 < entries {
         return 0;
+    }
+    if case.which == PLAN {
+        return PARAMETERS + LINE * entries;
+    }
+    if case.which == CALLS {
+        return CALL;
     }
     29 * entries
 }

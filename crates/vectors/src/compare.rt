@@ -1,7 +1,13 @@
 // Whether the reader and the writer do as reckoned.
+use crate::calls::calls_agree;
+use crate::cases::CALLS;
 use crate::cases::Case;
+use crate::cases::PLAN;
+use crate::cases::READER;
+use crate::cases::WRITER;
 use crate::cases::entries_length;
 use crate::cases::record_in;
+use crate::plans::plan_agrees;
 use sheet::reader::ReadAnswer;
 use sheet::reader::read_sheet;
 use sheet::record::PackedForm;
@@ -70,7 +76,7 @@ fn reader_agrees(case: Case, sheet: &[u8], entries: &[u8]) -> bool {
     }
 }
 
-fn same_bytes(a: &[u8], b: &[u8], count: usize) -> bool {
+pub(crate) fn same_bytes(a: &[u8], b: &[u8], count: usize) -> bool {
     if a.len() < count || b.len() < count {
         return false;
     }
@@ -85,7 +91,7 @@ fn same_bytes(a: &[u8], b: &[u8], count: usize) -> bool {
 }
 
 // Whether the buffer holds what it was filled with, from a position on.
-fn still_filled(buffer: &[u8], from: usize) -> bool {
+pub(crate) fn still_filled(buffer: &[u8], from: usize) -> bool {
     let mut i = from;
     while i < buffer.len() {
         if buffer[i] != 167 {
@@ -133,9 +139,11 @@ pub(crate) fn agrees(case: Case, sheets: &[u8], entries: &[u8]) -> bool {
     let which = case.which;
     let sheet = front(sheets, case.sheet);
     let own = front(entries, entries_length(case));
-    if which == 1 {
-        reader_agrees(case, sheet, own)
-    } else {
-        writer_agrees(case, sheet, own)
+    match which {
+        READER => reader_agrees(case, sheet, own),
+        WRITER => writer_agrees(case, sheet, own),
+        PLAN => plan_agrees(case, sheet, own),
+        CALLS => calls_agree(case, sheet, own),
+        _ => false,
     }
 }

@@ -1,7 +1,12 @@
-// Runs the stored cases of the reader and the writer, and says how many there are and how many differ.
+// Runs the stored cases of the reader, the writer, the plan and the calls, and says how many there are and how many differ.
+mod calls;
 mod cases;
 mod compare;
+mod plans;
 
+use crate::cases::PLAN;
+use crate::cases::READER;
+use crate::cases::WRITER;
 use crate::cases::case_of;
 use crate::cases::entries_length;
 use crate::compare::agrees;
@@ -11,6 +16,8 @@ use libc::STDOUT_FILENO;
 struct Tally {
     readings: u64,
     writings: u64,
+    plans: u64,
+    calls: u64,
     differing: u64,
     more: bool,
 }
@@ -18,10 +25,19 @@ struct Tally {
 // The tally with one case more.
 fn counted(tally: Tally, which: u8, agrees: bool) -> Tally {
     let mut next = tally;
-    if which == 1 {
-        next.readings = std::num::wrapping_add_u64(next.readings, 1);
-    } else {
-        next.writings = std::num::wrapping_add_u64(next.writings, 1);
+    match which {
+        READER => {
+            next.readings = std::num::wrapping_add_u64(next.readings, 1);
+        }
+        WRITER => {
+            next.writings = std::num::wrapping_add_u64(next.writings, 1);
+        }
+        PLAN => {
+            next.plans = std::num::wrapping_add_u64(next.plans, 1);
+        }
+        _ => {
+            next.calls = std::num::wrapping_add_u64(next.calls, 1);
+        }
     }
     if !agrees {
         next.differing = std::num::wrapping_add_u64(next.differing, 1);
@@ -57,14 +73,10 @@ fn run_case(fd: i32, tally: Tally) -> Tally {
     counted(tally, which, agrees(case, &sheet, &entries))
 }
 
-// Every case of the file; no file has more than a million.
-fn run_all(fd: i32) -> Tally {
-    let mut tally = Tally {
-        readings: 0,
-        writings: 0,
-        differing: 0,
-        more: true,
-    };
+// Every case of the file after those of the tally; no file has more than a million.
+fn run_all(fd: i32, before: Tally) -> Tally {
+    let mut tally = before;
+    tally.more = true;
     let mut turns: usize = 1000000;
     while 0 < turns {
         let next = run_case(fd, tally);
@@ -83,16 +95,33 @@ fn print_line(text: &[u8], number: u64) {
     io::write_all(STDOUT_FILENO, b"\n");
 }
 
-fn main() {
-    let path = b"sheets";
+// The cases of a file; one that cannot be opened differs.
+fn run_file(path: &[u8], before: Tally) -> Tally {
     let fd = os::open_read(path);
     if fd < 0 {
         os::fail(path);
-        return;
+        return counted(before, 0, false);
     }
-    let tally = run_all(fd);
+    let tally = run_all(fd, before);
     libc::close(fd);
+    tally
+}
+
+fn main() {
+    let none = Tally {
+        readings: 0,
+        writings: 0,
+        plans: 0,
+        calls: 0,
+        differing: 0,
+        more: true,
+    };
+    let sheets = run_file(b"sheets", none);
+    let loops = run_file(b"loops", sheets);
+    let tally = run_file(b"figures", loops);
     print_line(b"sheets read: ", tally.readings);
     print_line(b"sheets written: ", tally.writings);
+    print_line(b"plans made: ", tally.plans);
+    print_line(b"figures answered: ", tally.calls);
     print_line(b"otherwise than reckoned: ", tally.differing);
 }

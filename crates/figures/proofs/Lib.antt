@@ -1,0 +1,5 @@
+pub mod Repeats
+pub mod Planning
+pub mod Demands
+pub mod Calls
+pub mod Pastes

@@ -1,0 +1,32 @@
+use mathlib.Core.Path.{_∙_, sym, ap}
+use mathlib.Core.List.{[]}
+use lib.ListN.{set, getD}
+use Rattle.nest.specs.Facts.{rowWith}
+use mir.Facts.{toZ-ofZ}
+use borrow.Author.Needs.{needs}
+use Rattle.nest.proofs.facts.row_with.Statement.{statement}
+use Rattle.nest.proofs.facts.row_with.Tie as tie
+
+push-requires : tie.Need-push-requires
+push-requires c κs = search needs
+
+mul-row : tie.Need-mul-row
+mul-row c = search needs
+
+array-copy-out-row : tie.Need-array-copy-out-row
+array-copy-out-row c = search needs
+
+mul-row-2 : tie.Need-mul-row-2
+mul-row-2 c = search needs
+
+array-set-from-row : tie.Need-array-set-from-row
+array-set-from-row c = search needs
+
+returns : tie.Need-returns
+unfolding rowWith
+returns c = ap (set (getD (c .before .before .args .t2) (c .before .before .args .m) []) (c .before .before .args .depth)) (toZ-ofZ (record { sfits = c .before .push .ok }) ∙ c .before .push .ensures)
+
+pub row-with-spec : {M : Type 1} → statement M
+row-with-spec =
+    tie.close
+    (tie.spec push-requires mul-row array-copy-out-row mul-row-2 array-set-from-row returns)

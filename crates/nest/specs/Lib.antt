@@ -1,0 +1,9 @@
+pub mod Rows
+pub mod Slopes
+pub mod Plan
+pub mod Sheets
+pub mod Steps
+pub mod Facts
+pub mod Stored
+pub mod Answers
+pub mod Reports

@@ -1,0 +1,43 @@
+use borrow.Author.Needs.{needs}
+use Rattle.stage.specs.Sums.{wrappedSum}
+use Rattle.stage.specs.Frames.{tripPassed}
+use Rattle.stage.proofs.frames.pass_trip.Statement.{statement}
+use Rattle.stage.proofs.frames.pass_trip.Tie as tie
+
+part-requires : tie.Need-part-requires
+part-requires c κs = search needs
+
+least-of-requires : tie.Need-least-of-requires
+least-of-requires c κs = search needs
+
+wrapping-add-u64-requires : tie.Need-wrapping-add-u64-requires
+wrapping-add-u64-requires c κs = search needs
+
+part-requires-2 : tie.Need-part-requires-2
+part-requires-2 c κs = search needs
+
+most-of-requires : tie.Need-most-of-requires
+most-of-requires c κs = search needs
+
+wrapping-add-u64-requires-2 : tie.Need-wrapping-add-u64-requires-2
+wrapping-add-u64-requires-2 c κs = search needs
+
+put-passed-requires : tie.Need-put-passed-requires
+put-passed-requires c κs = search needs
+
+returns : tie.Need-returns
+unfolding tripPassed wrappedSum
+returns c = cc
+
+pub pass-trip-spec : {M : Type 1} → statement M
+pass-trip-spec =
+    tie.close
+    (tie.spec
+    part-requires
+    least-of-requires
+    wrapping-add-u64-requires
+    part-requires-2
+    most-of-requires
+    wrapping-add-u64-requires-2
+    put-passed-requires
+    returns)

@@ -1,0 +1,34 @@
+use borrow.Author.Needs.{needs}
+use Rattle.stage.specs.Sums.{added, wrappedSum}
+use Rattle.stage.proofs.sums.add.Statement.{statement}
+use Rattle.stage.proofs.sums.add.Tie as tie
+
+least-of-requires : tie.Need-least-of-requires
+least-of-requires c κs = search needs
+
+wrapping-add-u64-requires : tie.Need-wrapping-add-u64-requires
+wrapping-add-u64-requires c κs = search needs
+
+most-of-requires : tie.Need-most-of-requires
+most-of-requires c κs = search needs
+
+wrapping-add-u64-requires-2 : tie.Need-wrapping-add-u64-requires-2
+wrapping-add-u64-requires-2 c κs = search needs
+
+put-sums-requires : tie.Need-put-sums-requires
+put-sums-requires c κs = search needs
+
+returns : tie.Need-returns
+unfolding added wrappedSum
+returns c = cc
+
+pub add-spec : {M : Type 1} → statement M
+add-spec =
+    tie.close
+    (tie.spec
+    least-of-requires
+    wrapping-add-u64-requires
+    most-of-requires
+    wrapping-add-u64-requires-2
+    put-sums-requires
+    returns)

@@ -1,0 +1,10 @@
+pub mod PlanNumbers
+pub mod Sums
+pub mod Frames
+pub mod Kept
+pub mod Trips
+pub mod Pass
+pub mod Machine
+pub mod Next
+pub mod Represent
+pub mod Laws

@@ -1,0 +1,62 @@
+"""Stored cases of the library call and the C call, for the program that runs them.
+
+    python3 figure_cases.py FILE [--check]
+
+writes FILE, or with --check compares it with what stands there. A case has the
+header of sheet_cases.py with 4 as its first byte and 0 for what it has not.
+After the sheet follow the four parameters, 2 bytes each, the budget, 4 bytes,
+and the 24 bytes of the answer area: least, most and visits, or zeros.
+"""
+
+import os
+from random import Random
+
+import known
+import readings
+from calls import Figures, answer
+from generate import SIZES, Case, cases
+from stored import main, numbers
+
+HERE = os.path.dirname(os.path.abspath(__file__))
+SEED = 2051
+# of each size, three sheets each: valid, damaged, hostile
+RANDOM_CASES = {"small": 450, "middle": 250, "large": 60}
+FIGURES = 4
+
+
+def figure_case(case: Case) -> bytes:
+    """A sheet with parameters and budget, and its figures or its refusal."""
+    result = answer(case.sheet, case.parameters, case.budget)
+    if isinstance(result, Figures):
+        number, value = 0, 0
+        area = b"".join(figure.to_bytes(8, "little") for figure in result)
+    else:
+        number, value = result
+        area = bytes(24)
+    head = bytes([FIGURES, number]) + numbers(len(case.sheet), 0, value, 0, 0)
+    given = b"".join(p.to_bytes(2, "little", signed=True) for p in case.parameters)
+    return head + case.sheet + given + case.budget.to_bytes(4, "little") + area
+
+
+def with_edges(case: Case) -> list[bytes]:
+    """The case, and with figures also at the budgets around its visits."""
+    made = [figure_case(case)]
+    result = answer(case.sheet, case.parameters, case.budget)
+    if isinstance(result, Figures) and result.visits > 1:
+        made.append(figure_case(case._replace(budget=result.visits)))
+        made.append(figure_case(case._replace(budget=result.visits - 1)))
+    return made
+
+
+def all_cases() -> bytes:
+    random = Random(SEED)
+    lines = readings.parse_file(os.path.join(HERE, "readings.txt"))
+    given = [Case("reading", line.sheet, line.parameters, line.budget) for line in lines]
+    given += [Case("known", k.sheet(), k.parameters, k.budget) for k in known.MARKED]
+    for name, size in SIZES.items():
+        given += cases(random, RANDOM_CASES[name], size)
+    return b"".join(made for case in given for made in with_edges(case))
+
+
+if __name__ == "__main__":
+    main(all_cases)

@@ -1,0 +1,68 @@
+"""Stored cases of the loops of a sheet at given parameters, for the program that runs them.
+
+    python3 loop_cases.py FILE [--check]
+
+writes FILE, or with --check compares it with what stands there. A case has the
+header of sheet_cases.py with 3 as its first byte, the number of loops in place
+of the number of records, and no count and no buffer. After the sheet follow
+the four parameters, 2 bytes each, and for each loop 5 bytes: its offset, 1 for
+closed or 0 for walked, its ceiling.
+"""
+
+import os
+from random import Random
+
+import generate
+import known
+import readings
+from calls import reports
+from generate import SIZES, cases
+from nest import Parameters, ceiling_refusal
+from records import Refusal
+from sheet import read
+from stored import main, numbers
+
+HERE = os.path.dirname(os.path.abspath(__file__))
+SEED = 2050
+# of each size, three sheets each: valid, damaged, hostile
+RANDOM_CASES = 200
+# of each size, valid ones at several parameters
+VALID_SHEETS = 100
+PLAN = 3
+
+
+def plan_case(sheet: bytes, parameters: Parameters) -> bytes:
+    """A sheet at parameters, and its loops' lines or refusal 1 to 6."""
+    records = read(sheet)
+    refusal = records if isinstance(records, Refusal) else ceiling_refusal(records, parameters)
+    if refusal is None:
+        found = reports(sheet, parameters)
+        number, value = 0, len(records)
+    else:
+        found = []
+        number, value = refusal
+    head = bytes([PLAN, number]) + numbers(len(sheet), len(found), value, 0, 0)
+    given = b"".join(p.to_bytes(2, "little", signed=True) for p in parameters)
+    lines = [numbers(r.offset) + bytes([r.closed]) + numbers(r.ceiling) for r in found]
+    return head + sheet + given + b"".join(lines)
+
+
+def random_cases(random: Random) -> list[bytes]:
+    made: list[bytes] = []
+    for size in SIZES.values():
+        made += [plan_case(case.sheet, case.parameters) for case in cases(random, RANDOM_CASES, size)]
+        for _ in range(VALID_SHEETS):
+            sheet = generate.encode_all(generate.valid_records(random, size))
+            made += [plan_case(sheet, generate.parameters(random)) for _ in range(3)]
+    return made
+
+
+def all_cases() -> bytes:
+    lines = readings.parse_file(os.path.join(HERE, "readings.txt"))
+    made = [plan_case(line.sheet, line.parameters) for line in lines]
+    made += [plan_case(case.sheet(), case.parameters) for case in known.MARKED]
+    return b"".join(made + random_cases(Random(SEED)))
+
+
+if __name__ == "__main__":
+    main(all_cases)
