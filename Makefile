@@ -1,5 +1,5 @@
 # `make test` is the gate; the other targets are its parts, for the desk.
-.PHONY: test check reference examples cases format
+.PHONY: test check run bench reference examples cases format
 
 test:
 	bash .ci/run
@@ -7,6 +7,18 @@ test:
 # Prove what changed since the last check.
 check:
 	rt check
+
+# Prove and build the static library, and call it from C.
+run:
+	rt staticlib figures
+	cc -std=c99 -Wall -Wextra -O2 -Iinclude examples/figures.c target/staticlib/libfigures.a -o target/figures-example
+	target/figures-example
+
+# Time the proved call against plain Rust, in one run (needs rustc, `apt-get install rustc`).
+bench:
+	rt staticlib figures
+	rustc --edition 2021 -C opt-level=3 bench/main.rs -L target/staticlib -l static=figures -o target/bench
+	target/bench crates/vectors/data/figures
 
 # The independent reckoning's own tests.
 reference:

@@ -1,0 +1,125 @@
+//! Times the proved call against plain Rust, in one run, after both have agreed on every stored case.
+mod plain;
+
+use std::hint::black_box;
+use std::time::Instant;
+
+extern "C" {
+    fn pumdalin_figures(
+        sheet: *const u8,
+        sheet_length: usize,
+        p1: i16,
+        p2: i16,
+        p3: i16,
+        p4: i16,
+        budget: u32,
+        answer: *mut u8,
+        answer_length: usize,
+    ) -> u32;
+}
+
+const ROUNDS: usize = 9;
+const NANOSECONDS_A_ROUND: u128 = 60_000_000;
+
+fn proved(sheet: &[u8], p: [i16; 4], budget: u32) -> Result<[u64; 3], u32> {
+    let mut area = [0u8; 24];
+    // SAFETY: the pointers come from live slices of these lengths, which do not overlap.
+    let number = unsafe {
+        pumdalin_figures(sheet.as_ptr(), sheet.len(), p[0], p[1], p[2], p[3], budget, area.as_mut_ptr(), 24)
+    };
+    if number != 0 {
+        return Err(number);
+    }
+    let at = |i: usize| u64::from_le_bytes(area[i..i + 8].try_into().unwrap());
+    Ok([at(0), at(8), at(16)])
+}
+
+fn plain(sheet: &[u8], p: [i16; 4], budget: u32) -> Result<[u64; 3], u32> {
+    plain::figures(sheet, p, budget).map_err(|r| r.0)
+}
+
+/// Both against each other on the stored cases of the calls.
+fn agree(path: &str) -> usize {
+    let data = std::fs::read(path).expect("the stored cases");
+    let (mut at, mut count) = (0, 0);
+    while at < data.len() {
+        let number = |i: usize| u16::from_le_bytes([data[i], data[i + 1]]);
+        let length = number(at + 2) as usize;
+        let sheet = &data[at + 12..at + 12 + length];
+        let given = at + 12 + length;
+        let p = [0, 2, 4, 6].map(|i| number(given + i) as i16);
+        let budget = u32::from_le_bytes(data[given + 8..given + 12].try_into().unwrap());
+        assert_eq!(proved(sheet, p, budget), plain(sheet, p, budget), "case {count}");
+        at = given + 36;
+        count += 1;
+    }
+    count
+}
+
+fn form(constant: i16, index: [i8; 3]) -> Vec<u8> {
+    let mut bytes = constant.to_le_bytes().to_vec();
+    bytes.extend(index.map(|f| f as u8));
+    bytes.extend([0; 4]);
+    bytes
+}
+
+fn a_loop(lower: Vec<u8>, upper: Vec<u8>) -> Vec<u8> {
+    [vec![2, 2, 0, 1, 0, 1, 0], lower, upper].concat()
+}
+
+/// Four loops of so many trips, each starting where the one around it stands.
+fn slanted(trips: i16) -> Vec<u8> {
+    let factors = [[0, 0, 0], [1, 0, 0], [0, 1, 0], [0, 0, 1]];
+    factors.iter().flat_map(|f| a_loop(form(0, *f), form(trips - 1, *f))).collect()
+}
+
+fn sheets() -> Vec<(&'static str, Vec<u8>)> {
+    let work = vec![1, 3, 0, 5, 0];
+    let triangle = [a_loop(form(0, [0; 3]), form(9, [0; 3])), a_loop(form(0, [0; 3]), form(-1, [1, 0, 0]))].concat();
+    let walked = |trips: i16| [a_loop(form(0, [0; 3]), form(trips - 1, [0; 3])), vec![4]].concat();
+    let inner = [a_loop(form(0, [0; 3]), form(0, [0; 3])), work.clone(), vec![3]].concat();
+    let arm = [a_loop(form(0, [0; 3]), form(-1, [1, 0, 0])), work.clone(), vec![3, 5]].concat();
+    vec![
+        ("one loop of ten trips", [a_loop(form(0, [0; 3]), form(9, [0; 3])), work.clone(), vec![3]].concat()),
+        ("triangle", [triangle, work.clone(), vec![3, 3]].concat()),
+        ("64 records, plan only", [slanted(0), vec![3; 4]].concat().repeat(8)),
+        ("64 records, four deep, 2^44 trips", [slanted(2048), work.repeat(56), vec![3; 4]].concat()),
+        ("walked, 600,300 visits", [walked(300), walked(1000), inner, vec![3; 4]].concat()),
+        ("choices that hold loops", [walked(100), arm, work, vec![3; 2]].concat()),
+    ]
+}
+
+/// The best time of a call among the rounds, in nanoseconds.
+fn best(calls: &dyn Fn()) -> f64 {
+    let started = Instant::now();
+    calls();
+    let repeats = (NANOSECONDS_A_ROUND / started.elapsed().as_nanos().max(1)).clamp(1, 1_000_000);
+    let mut least = f64::MAX;
+    for _ in 0..ROUNDS {
+        let started = Instant::now();
+        for _ in 0..repeats {
+            calls();
+        }
+        least = least.min(started.elapsed().as_nanos() as f64 / repeats as f64);
+    }
+    least
+}
+
+fn main() {
+    let path = std::env::args().nth(1).expect("the file of stored cases");
+    println!("{} stored cases: both agree", agree(&path));
+    println!("{:36} {:>12} {:>12} {:>8} {:>8}", "sheet", "proved, ns", "plain, ns", "ratio", "visits");
+    for (name, sheet) in sheets() {
+        let p = [0i16; 4];
+        let answer = proved(&sheet, p, 1_000_000);
+        assert_eq!(answer, plain(&sheet, p, 1_000_000));
+        let ours = best(&|| {
+            let _ = black_box(proved(black_box(&sheet), p, 1_000_000));
+        });
+        let theirs = best(&|| {
+            let _ = black_box(plain(black_box(&sheet), p, 1_000_000));
+        });
+        let visits = answer.expect("figures")[2];
+        println!("{name:36} {ours:12.0} {theirs:12.0} {:8.2} {visits:8}", ours / theirs);
+    }
+}
