@@ -1,8 +1,12 @@
 # `make test` is the gate; the other targets are its parts, for the desk.
-.PHONY: test check run bench reference examples cases format
+.PHONY: setup test check run bench reference examples cases format
 
 test:
 	bash .ci/run
+
+# What the other targets need beyond the kit, from Debian's packages; the gate needs none of it.
+setup:
+	apt-get install -y gcc libc6-dev python3 rustc
 
 # Prove what changed since the last check.
 check:
@@ -14,7 +18,7 @@ run:
 	cc -std=c99 -Wall -Wextra -O2 -Iinclude examples/figures.c target/staticlib/libfigures.a -o target/figures-example
 	target/figures-example
 
-# Time the proved call against plain Rust, in one run (needs rustc, `apt-get install rustc`).
+# Time the proved call against plain Rust, in one run.
 bench:
 	rt staticlib figures
 	rustc --edition 2021 -C opt-level=3 bench/main.rs -L target/staticlib -l static=figures -o target/bench
