@@ -4,7 +4,7 @@ from typing import NamedTuple
 
 import known
 from known import ZERO, form, loop, span
-from nest import Parameters
+from nest import Parameters, encode_parameters
 from records import Choice, End, NextArm, Work, encode, encode_all
 
 TRIANGLE = encode_all(known.TRIANGLE)
@@ -88,8 +88,7 @@ class TextCase(NamedTuple):
 
 def program_input(sheet: bytes, parameters: Parameters = ZERO, budget: int = 100) -> bytes:
     """Four parameters of 2 bytes, the budget of 4, the sheet."""
-    values = b"".join(value.to_bytes(2, "little", signed=True) for value in parameters)
-    return values + budget.to_bytes(4, "little") + sheet
+    return encode_parameters(parameters) + budget.to_bytes(4, "little") + sheet
 
 
 PARAMETERS_SHEET = encode_all([

@@ -4,7 +4,7 @@ from typing import NamedTuple, Union
 
 import stages
 import trips
-from nest import LoopReport, Parameters, ceiling_refusal, loop_reports
+from nest import LoopReport, Parameters, accepted, loop_reports
 from records import PARAMETERS, Record, Refusal, signed, unsigned
 from sheet import read
 from trips import Bounds, TooMany
@@ -31,21 +31,18 @@ def answer(sheet: bytes, parameters: Parameters, budget: int) -> Answer:
     """The library call: 7; 1 to 5; 6; 8; or the figures."""
     if not 1 <= budget <= BUDGET_LIMIT:
         return Refusal(7, 0)
-    records = read(sheet)
+    records = accepted(sheet, parameters)
     if isinstance(records, Refusal):
         return records
-    refusal = ceiling_refusal(records, parameters)
-    if refusal is not None:
-        return refusal
     try:
         visits = trips.visits(records, parameters, budget)
     except TooMany:
         return Refusal(8, 0)
-    bounds = times(sheet, records, parameters)
+    bounds = times(records, parameters)
     return Figures(bounds.least, bounds.most, visits)
 
 
-def times(sheet: bytes, records: list[Record], parameters: Parameters) -> Bounds:
+def times(records: list[Record], parameters: Parameters) -> Bounds:
     """Least and most of a sheet that is not refused 1 to 6.
 
     A closed sheet can have 2,048^4 trips, which nobody can go over. So where
@@ -55,7 +52,7 @@ def times(sheet: bytes, records: list[Record], parameters: Parameters) -> Bounds
     try:
         return trips.time(records, parameters, TRIP_LIMIT)
     except TooMany:
-        nest = stages.nest_of(sheet, parameters)
+        nest = stages.nest_from(records, parameters)
         return stages.run_stages(nest, BUDGET_LIMIT).current
 
 

@@ -13,8 +13,9 @@ from random import Random
 
 import known
 import readings
-from calls import Figures, answer
+from calls import Answer, Figures, answer
 from generate import SIZES, Case, cases
+from nest import encode_parameters
 from stored import main, numbers
 
 HERE = os.path.dirname(os.path.abspath(__file__))
@@ -24,9 +25,12 @@ RANDOM_CASES = {"small": 450, "middle": 250, "large": 60}
 FIGURES = 4
 
 
-def figure_case(case: Case) -> bytes:
+def reckoned(case: Case) -> Answer:
+    return answer(case.sheet, case.parameters, case.budget)
+
+
+def figure_case(case: Case, result: Answer) -> bytes:
     """A sheet with parameters and budget, and its figures or its refusal."""
-    result = answer(case.sheet, case.parameters, case.budget)
     if isinstance(result, Figures):
         number, value = 0, 0
         area = b"".join(figure.to_bytes(8, "little") for figure in result)
@@ -34,17 +38,18 @@ def figure_case(case: Case) -> bytes:
         number, value = result
         area = bytes(24)
     head = bytes([FIGURES, number]) + numbers(len(case.sheet), 0, value, 0, 0)
-    given = b"".join(p.to_bytes(2, "little", signed=True) for p in case.parameters)
-    return head + case.sheet + given + case.budget.to_bytes(4, "little") + area
+    given = encode_parameters(case.parameters) + case.budget.to_bytes(4, "little")
+    return head + case.sheet + given + area
 
 
 def with_edges(case: Case) -> list[bytes]:
     """The case, and with figures also at the budgets around its visits."""
-    made = [figure_case(case)]
-    result = answer(case.sheet, case.parameters, case.budget)
+    result = reckoned(case)
+    made = [figure_case(case, result)]
     if isinstance(result, Figures) and result.visits > 1:
-        made.append(figure_case(case._replace(budget=result.visits)))
-        made.append(figure_case(case._replace(budget=result.visits - 1)))
+        for budget in (result.visits, result.visits - 1):
+            edge = case._replace(budget=budget)
+            made.append(figure_case(edge, reckoned(edge)))
     return made
 
 

@@ -15,11 +15,9 @@ from random import Random
 import generate
 import known
 import readings
-from calls import reports
 from generate import SIZES, cases
-from nest import Parameters, ceiling_refusal
+from nest import LoopReport, Parameters, accepted, encode_parameters, loop_reports
 from records import Refusal
-from sheet import read
 from stored import main, numbers
 
 HERE = os.path.dirname(os.path.abspath(__file__))
@@ -33,18 +31,16 @@ PLAN = 3
 
 def plan_case(sheet: bytes, parameters: Parameters) -> bytes:
     """A sheet at parameters, and its loops' lines or refusal 1 to 6."""
-    records = read(sheet)
-    refusal = records if isinstance(records, Refusal) else ceiling_refusal(records, parameters)
-    if refusal is None:
-        found = reports(sheet, parameters)
-        number, value = 0, len(records)
+    records = accepted(sheet, parameters)
+    if isinstance(records, Refusal):
+        found: list[LoopReport] = []
+        number, value = records
     else:
-        found = []
-        number, value = refusal
+        found = loop_reports(records, parameters)
+        number, value = 0, len(records)
     head = bytes([PLAN, number]) + numbers(len(sheet), len(found), value, 0, 0)
-    given = b"".join(p.to_bytes(2, "little", signed=True) for p in parameters)
     lines = [numbers(r.offset) + bytes([r.closed]) + numbers(r.ceiling) for r in found]
-    return head + sheet + given + b"".join(lines)
+    return head + sheet + encode_parameters(parameters) + b"".join(lines)
 
 
 def random_cases(random: Random) -> list[bytes]:

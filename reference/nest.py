@@ -1,11 +1,17 @@
 """The loops of a sheet at given parameter values: ranges, ceilings, closed or walked."""
 
-from typing import NamedTuple, Optional
+from typing import NamedTuple, Optional, Union
 
 from records import CEILING_LIMIT, Form, Loop, Record, Refusal, offsets
+from sheet import read
 from tree import Body, LoopNode, has_choice_with_loop, height, loops_directly_in, loops_in, tree
 
 Parameters = tuple[int, int, int, int]
+
+
+def encode_parameters(parameters: Parameters) -> bytes:
+    """2 bytes each, low byte first."""
+    return b"".join(value.to_bytes(2, "little", signed=True) for value in parameters)
 
 
 class Range(NamedTuple):
@@ -151,6 +157,14 @@ def ceiling_refusal(records: list[Record], parameters: Parameters) -> Optional[R
         if report.ceiling > CEILING_LIMIT:
             return Refusal(6, report.offset)
     return None
+
+
+def accepted(sheet: bytes, parameters: Parameters) -> Union[list[Record], Refusal]:
+    """The records of a sheet, or refusal 1 to 6."""
+    records = read(sheet)
+    if isinstance(records, Refusal):
+        return records
+    return ceiling_refusal(records, parameters) or records
 
 
 def loop_reports(records: list[Record], parameters: Parameters) -> list[LoopReport]:

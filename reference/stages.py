@@ -8,10 +8,9 @@ the first state reach are taken.
 from dataclasses import dataclass, replace
 from typing import Optional, Union
 
-from nest import LoopFacts, Parameters, ceiling_refusal, facts
+from nest import LoopFacts, Parameters, accepted, facts
 from newton import newton_sum
 from records import Choice, End, Loop, NextArm, Record, Refusal, Work
-from sheet import read
 from trips import NOTHING, Bounds, both, index_of, to_visit, trips_of
 
 
@@ -84,12 +83,14 @@ def end_positions(records: list[Record]) -> dict[int, int]:
 
 def nest_of(sheet: bytes, parameters: Parameters) -> Union[Nest, Refusal]:
     """The nest of a sheet that is not refused 1 to 6."""
-    records = read(sheet)
+    records = accepted(sheet, parameters)
     if isinstance(records, Refusal):
         return records
-    refusal = ceiling_refusal(records, parameters)
-    if refusal is not None:
-        return refusal
+    return nest_from(records, parameters)
+
+
+def nest_from(records: list[Record], parameters: Parameters) -> Nest:
+    """The nest of records that are not refused."""
     return Nest(records, parameters, facts(records, parameters), end_positions(records))
 
 
