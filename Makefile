@@ -37,6 +37,7 @@ cases:
 	python3 reference/sheet_cases.py crates/vectors/data/sheets --check
 	python3 reference/loop_cases.py crates/vectors/data/loops --check
 	python3 reference/figure_cases.py crates/vectors/data/figures --check
+	python3 reference/stage_cases.py crates/vectors/data/stages --check
 
 format:
 	rt fmt

@@ -1,7 +1,9 @@
 // A stored case: its header, and the records that stand in it.
 use crate::calls::CALL;
+use crate::numbers::PARAMETERS;
 use crate::plans::LINE;
-use crate::plans::PARAMETERS;
+use crate::stages::MOST_STAGES;
+use crate::stages::STATE;
 use sheet::number::byte_at;
 use sheet::number::signed8_at;
 use sheet::number::signed16_at;
@@ -16,6 +18,8 @@ pub(crate) const WRITER: u8 = 2;
 pub(crate) const PLAN: u8 = 3;
 
 pub(crate) const CALLS: u8 = 4;
+
+pub(crate) const STAGES: u8 = 5;
 
 // What is called, the refusal's number, lengths, and the place, count or length that is expected.
 pub(crate) struct Case {
@@ -40,11 +44,14 @@ pub(crate) fn case_of(header: &[u8]) -> Case {
     }
 }
 
-// How many bytes follow the sheet: records, parameters and the lines of loops, or a call; no case has more than 64.
+// How many bytes follow the sheet: records, parameters and the lines of loops, a call, or parameters and states.
 pub(crate) fn entries_length(case: Case) -> usize {
     let entries = case.entries;
-    if 64 < entries {
+    if MOST_STAGES < entries {
         return 0;
+    }
+    if case.which == STAGES {
+        return PARAMETERS + STATE * entries;
     }
     if case.which == PLAN {
         return PARAMETERS + LINE * entries;

@@ -4,10 +4,12 @@ use crate::cases::CALLS;
 use crate::cases::Case;
 use crate::cases::PLAN;
 use crate::cases::READER;
+use crate::cases::STAGES;
 use crate::cases::WRITER;
 use crate::cases::entries_length;
 use crate::cases::record_in;
 use crate::plans::plan_agrees;
+use crate::stages::stages_agree;
 use sheet::reader::ReadAnswer;
 use sheet::reader::read_sheet;
 use sheet::record::PackedForm;
@@ -144,6 +146,7 @@ pub(crate) fn agrees(case: Case, sheets: &[u8], entries: &[u8]) -> bool {
         WRITER => writer_agrees(case, sheet, own),
         PLAN => plan_agrees(case, sheet, own),
         CALLS => calls_agree(case, sheet, own),
+        STAGES => stages_agree(case, sheet, own),
         _ => false,
     }
 }

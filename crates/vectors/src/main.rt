@@ -1,11 +1,14 @@
-// Runs the stored cases of the reader, the writer, the plan and the calls, and says how many there are and how many differ.
+// Runs the stored cases of the reader, the writer, the plan, the calls and the stage, and says how many there are and how many differ.
 mod calls;
 mod cases;
 mod compare;
+mod numbers;
 mod plans;
+mod stages;
 
 use crate::cases::PLAN;
 use crate::cases::READER;
+use crate::cases::STAGES;
 use crate::cases::WRITER;
 use crate::cases::case_of;
 use crate::cases::entries_length;
@@ -18,6 +21,7 @@ struct Tally {
     writings: u64,
     plans: u64,
     calls: u64,
+    stagings: u64,
     differing: u64,
     more: bool,
 }
@@ -34,6 +38,9 @@ fn counted(tally: Tally, which: u8, agrees: bool) -> Tally {
         }
         PLAN => {
             next.plans = std::num::wrapping_add_u64(next.plans, 1);
+        }
+        STAGES => {
+            next.stagings = std::num::wrapping_add_u64(next.stagings, 1);
         }
         _ => {
             next.calls = std::num::wrapping_add_u64(next.calls, 1);
@@ -113,15 +120,18 @@ fn main() {
         writings: 0,
         plans: 0,
         calls: 0,
+        stagings: 0,
         differing: 0,
         more: true,
     };
     let sheets = run_file(b"sheets", none);
     let loops = run_file(b"loops", sheets);
-    let tally = run_file(b"figures", loops);
+    let figures = run_file(b"figures", loops);
+    let tally = run_file(b"stages", figures);
     print_line(b"sheets read: ", tally.readings);
     print_line(b"sheets written: ", tally.writings);
     print_line(b"plans made: ", tally.plans);
     print_line(b"figures answered: ", tally.calls);
+    print_line(b"sheets gone through stage by stage: ", tally.stagings);
     print_line(b"otherwise than reckoned: ", tally.differing);
 }

@@ -1,17 +1,16 @@
 // Whether the plan of a sheet has the loops' lines, or the refusal, as reckoned.
 use crate::cases::Case;
+use crate::numbers::PARAMETERS;
+use crate::numbers::parameters_in;
 use nest::plan::PlanAnswer;
 use nest::plan::plan;
 use nest::report::LoopReport;
 use nest::report::Report;
 use nest::report::report_of;
 use sheet::number::byte_at;
-use sheet::number::signed16_at;
 use sheet::number::unsigned16_at;
 
-// How many bytes of the given numbers are the four parameters, and how many a loop's line.
-pub(crate) const PARAMETERS: usize = 8;
-
+// How many bytes a loop's line takes.
 pub(crate) const LINE: usize = 5;
 
 // The offset after a loop's line in the given numbers (its offset, closed or walked, ceiling); 0 where the line is another.
@@ -53,13 +52,9 @@ fn same_lines(rows: &[u64; 512], slopes: &[u64; 512], given: &[u8]) -> bool {
 }
 
 pub(crate) fn plan_agrees(case: Case, sheet: &[u8], given: &[u8]) -> bool {
-    let p1 = signed16_at(given, 0);
-    let p2 = signed16_at(given, 2);
-    let p3 = signed16_at(given, 4);
-    let p4 = signed16_at(given, 6);
     let mut rows: [u64; 512] = [0; 512];
     let mut slopes: [u64; 512] = [0; 512];
-    let answer = plan(sheet, [p1, p2, p3, p4], &mut rows, &mut slopes);
+    let answer = plan(sheet, parameters_in(given), &mut rows, &mut slopes);
     match answer {
         PlanAnswer::Count(n) => case.number == 0
             && n == case.value

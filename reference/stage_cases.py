@@ -1,0 +1,117 @@
+"""Stored cases of the stage: the states after every stage, for the program that runs them.
+
+    python3 stage_cases.py FILE [--check]
+
+writes FILE, or with --check compares it with what stands there. A case has the
+header of sheet_cases.py with 5 as its first byte, the number of stages in place
+of the number of records, and 0 for what it has not. After the sheet follow the
+four parameters, 2 bytes each, and for each stage 22 bytes of the state that it
+returns: the records passed, 2 bytes, the visits, 4 bytes, and the least and the
+most of the innermost open trip or arm, or else of the sheet, 8 bytes each. The
+last stage but one reaches the sheet's end; the last one stays there.
+"""
+
+import os
+from random import Random
+from typing import Iterator, NamedTuple
+
+import known
+import readings
+from generate import SIZES, parameters, valid_records
+from nest import Parameters, encode_parameters
+from records import Refusal, encode_all
+from stages import Nest, State, at_end, first_state, nest_of, next_state
+from stored import main, numbers
+from tree import has_choice_with_loop, height, loops_directly_in, tree
+from trips import trips_of
+
+HERE = os.path.dirname(os.path.abspath(__file__))
+SEED = 2052
+STAGES = 5
+# a case's states have to fit in the program's space of 4,096 bytes
+MOST_STAGES = 150
+# at least so many random sheets of each sort
+EACH_SORT = 150
+SORTS = ("walked", "closed", "choice with a loop", "four deep", "no trip")
+
+
+class StageCase(NamedTuple):
+    sheet: bytes
+    parameters: Parameters
+
+
+def states_of(nest: Nest) -> list[State]:
+    """The states after every stage up to the sheet's end, and after one more; none where they are too many."""
+    states: list[State] = []
+    state = first_state()
+    while len(states) < MOST_STAGES:
+        ended = at_end(nest, state)
+        state = next_state(nest, state)
+        states.append(state)
+        if ended:
+            return states
+    return []
+
+
+def line(state: State) -> bytes:
+    sums = state.current.least.to_bytes(8, "little") + state.current.most.to_bytes(8, "little")
+    return numbers(state.position) + state.visits.to_bytes(4, "little") + sums
+
+
+def stored(case: StageCase) -> bytes:
+    """The case with its states; nothing where these are too many. A refused sheet leaves the first state as it is."""
+    nest = nest_of(case.sheet, case.parameters)
+    states = [first_state()] if isinstance(nest, Refusal) else states_of(nest)
+    if not states:
+        return b""
+    head = bytes([STAGES, 0]) + numbers(len(case.sheet), len(states), 0, 0, 0)
+    return head + case.sheet + encode_parameters(case.parameters) + b"".join(map(line, states))
+
+
+def sorts_of(nest: Nest) -> set[str]:
+    """Which of the sorts it is of."""
+    body = tree(nest.records)
+    facts = nest.known.values()
+    outermost = loops_directly_in(body)
+    tests = (
+        any(not fact.closed for fact in facts),
+        any(fact.closed and fact.height > 0 for fact in facts),
+        has_choice_with_loop(body),
+        any(height(loop) == 3 for loop in outermost),
+        any(trips_of(node.loop, [], nest.parameters) == 0 for node in outermost),
+    )
+    return {sort for sort, holds in zip(SORTS, tests) if holds}
+
+
+def random_cases(random: Random) -> Iterator[StageCase]:
+    """Valid sheets of all sizes in turn, without end."""
+    while True:
+        for size in SIZES.values():
+            yield StageCase(encode_all(valid_records(random, size)), parameters(random))
+
+
+def wanted_cases(random: Random) -> list[StageCase]:
+    """Sheets of which each is of a sort that there are not yet enough of."""
+    left = dict.fromkeys(SORTS, EACH_SORT)
+    chosen: list[StageCase] = []
+    for case in random_cases(random):
+        nest = nest_of(case.sheet, case.parameters)
+        if isinstance(nest, Refusal) or not states_of(nest):
+            continue
+        wanted = {sort for sort in sorts_of(nest) if left[sort] > 0}
+        if wanted:
+            chosen.append(case)
+            left.update({sort: left[sort] - 1 for sort in wanted})
+        if not any(left.values()):
+            return chosen
+
+
+def all_cases() -> bytes:
+    lines = readings.parse_file(os.path.join(HERE, "readings.txt"))
+    given = [StageCase(reading.sheet, reading.parameters) for reading in lines]
+    given += [StageCase(case.sheet(), case.parameters) for case in known.MARKED]
+    return b"".join(map(stored, given + wanted_cases(Random(SEED))))
+
+
+if __name__ == "__main__":
+    main(all_cases)
