@@ -16,6 +16,7 @@ pub mod FrameLaws
 pub mod KeptLaws
 pub mod LoopLaws
 pub mod MachineLaws
+pub mod SumLaws
 pub mod TripLaws
 pub mod WorkLaws
 pub mod Parameters

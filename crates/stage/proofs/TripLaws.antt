@@ -9,7 +9,7 @@ use lib.Dec.{ltb, leb·suc-suc}
 use lib.ListN.{getD}
 use borrow.Author.Tests.{lt-ltb, le-ltb}
 use Rattle.stage.specs.Trips.{distance, tripsOver, tripsAt, visitedOf}
-use Rattle.stage.specs.PlanNumbers.{baseAt, pushAt}
+use Rattle.stage.specs.PlanNumbers.{strideAt, baseAt, pushAt}
 
 pub wrapped-distance : (m base a b c : ℕ) → (base + (a % m + (b % m + c % m) % m) % m) % m ≡ (base + (a + (b + c))) % m
 wrapped-distance m base a b c =
@@ -76,3 +76,10 @@ module _ (slopes counters : List ℕ) (k : ℕ) {outer middle inner by-outer by-
   distance-made p1 p2 p3 p4 p5 p6 p7 p8 p9 p10 =
       let e = wrapped-distance (2 ^ 64) (baseAt slopes k) (pushAt slopes k 0 * getD counters 0 0) (pushAt slopes k 1 * getD counters 1 0) (pushAt slopes k 2 * getD counters 2 0) in
       cc
+
+-- the trips, from the stride and the distance
+pub trips-made :
+    (slopes counters : List ℕ) (k : ℕ) {stride d n : ℕ}
+    → stride ≡ strideAt slopes k → d ≡ distance slopes counters k → n ≡ tripsOver stride d → n ≡ tripsAt slopes counters k
+unfolding tripsAt
+trips-made slopes counters k p q r = cc

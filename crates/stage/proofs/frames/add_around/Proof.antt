@@ -1,6 +1,5 @@
 use borrow.Author.Needs.{needs}
-use Rattle.stage.specs.Frames.{sumsAround}
-use Rattle.stage.specs.Sums.{wrappedSum}
+use Rattle.stage.proofs.FrameLaws.{added-around}
 use Rattle.stage.proofs.frames.add_around.Statement.{statement}
 use Rattle.stage.proofs.frames.add_around.Tie as tie
 
@@ -20,8 +19,9 @@ put-sums-requires : tie.Need-put-sums-requires
 put-sums-requires c κs = search needs
 
 returns : tie.Need-returns
-unfolding sumsAround wrappedSum
-returns c = cc
+returns c =
+    let c2 = c .before .before in let c3 = c2 .before in let c4 = c3 .before in let c5 = c4 .before in
+    added-around _ _ _ _ _ (c5 .part .ensures) (c4 .wrapping-add-u64 .ensures) (c3 .part2 .ensures) (c2 .wrapping-add-u642 .ensures) (c .put-sums .ensures)
 
 pub add-around-spec : {M : Type 1} → statement M
 add-around-spec =

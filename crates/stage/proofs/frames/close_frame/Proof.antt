@@ -1,4 +1,5 @@
 use borrow.Author.Needs.{needs}
+use Rattle.stage.proofs.FrameLaws.{passed-around}
 use Rattle.stage.proofs.frames.close_frame.Statement.{statement}
 use Rattle.stage.proofs.frames.close_frame.Tie as tie
 
@@ -15,7 +16,9 @@ leave-frame-requires : tie.Need-leave-frame-requires
 leave-frame-requires c κs = search needs
 
 returns : tie.Need-returns
-returns c = (cc, cc)
+returns c =
+    let c2 = c .before .before in let c5 = c2 .before .before .before in let c7 = c5 .before .before in
+    (passed-around _ _ _ (c7 .part .ensures) (c5 .part2 .ensures) (c2 .add-around .ensures), c .leave-frame .ensures)
 
 pub close-frame-spec : {M : Type 1} → statement M
 close-frame-spec =

@@ -1,5 +1,5 @@
 use borrow.Author.Needs.{needs}
-use Rattle.stage.specs.Frames.{opened}
+use Rattle.stage.proofs.FrameLaws.{opened-by-two}
 use Rattle.stage.proofs.frames.open_frame.Statement.{statement}
 use Rattle.stage.proofs.frames.open_frame.Tie as tie
 
@@ -16,8 +16,9 @@ put-part-requires-2 : tie.Need-put-part-requires-2
 put-part-requires-2 c κs = search needs
 
 returns : tie.Need-returns
-unfolding opened
-returns c = cc
+returns c =
+    let c1 = c .before in let c3 = c1 .before .before in
+    opened-by-two _ _ _ (c3 .before .least-of .ensures) (c3 .put-part .ensures) (c1 .most-of .ensures) (c .put-part2 .ensures)
 
 pub open-frame-spec : {M : Type 1} → statement M
 open-frame-spec =

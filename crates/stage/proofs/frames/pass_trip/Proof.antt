@@ -1,6 +1,5 @@
 use borrow.Author.Needs.{needs}
-use Rattle.stage.specs.Sums.{wrappedSum}
-use Rattle.stage.specs.Frames.{tripPassed}
+use Rattle.stage.proofs.FrameLaws.{trip-joined}
 use Rattle.stage.proofs.frames.pass_trip.Statement.{statement}
 use Rattle.stage.proofs.frames.pass_trip.Tie as tie
 
@@ -26,8 +25,10 @@ put-passed-requires : tie.Need-put-passed-requires
 put-passed-requires c κs = search needs
 
 returns : tie.Need-returns
-unfolding tripPassed wrappedSum
-returns c = cc
+returns c =
+    let c2 = c .before .before in let c3 = c2 .before in let c4 = c3 .before in let c6 = c4 .before .before in let c7 = c6 .before in let c8 = c7 .before in
+    trip-joined _ _ _ (c8 .part .ensures) (c7 .least-of .ensures) (c6 .wrapping-add-u64 .ensures) (c4 .part2 .ensures) (c3 .most-of .ensures)
+    (c2 .wrapping-add-u642 .ensures) (c .put-passed .ensures)
 
 pub pass-trip-spec : {M : Type 1} → statement M
 pass-trip-spec =

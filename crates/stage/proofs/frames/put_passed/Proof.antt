@@ -1,5 +1,5 @@
 use borrow.Author.Needs.{needs}
-use Rattle.stage.specs.Frames.{withPassed}
+use Rattle.stage.proofs.FrameLaws.{passed-by-two}
 use Rattle.stage.proofs.frames.put_passed.Statement.{statement}
 use Rattle.stage.proofs.frames.put_passed.Tie as tie
 
@@ -10,8 +10,7 @@ put-part-requires-2 : tie.Need-put-part-requires-2
 put-part-requires-2 c κs = search needs
 
 returns : tie.Need-returns
-unfolding withPassed
-returns c = cc
+returns c = passed-by-two _ _ _ _ (c .before .before .put-part .ensures) (c .put-part2 .ensures)
 
 pub put-passed-spec : {M : Type 1} → statement M
 put-passed-spec = tie.close (tie.spec put-part-requires put-part-requires-2 returns)

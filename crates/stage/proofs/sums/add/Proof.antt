@@ -1,5 +1,5 @@
 use borrow.Author.Needs.{needs}
-use Rattle.stage.specs.Sums.{added, wrappedSum}
+use Rattle.stage.proofs.SumLaws.{sums-added}
 use Rattle.stage.proofs.sums.add.Statement.{statement}
 use Rattle.stage.proofs.sums.add.Tie as tie
 
@@ -19,8 +19,9 @@ put-sums-requires : tie.Need-put-sums-requires
 put-sums-requires c κs = search needs
 
 returns : tie.Need-returns
-unfolding added wrappedSum
-returns c = cc
+returns c =
+    let c2 = c .before .before in let c3 = c2 .before in let c5 = c3 .before .before in let c6 = c5 .before in
+    sums-added _ _ _ (c6 .least-of .ensures) (c5 .wrapping-add-u64 .ensures) (c3 .most-of .ensures) (c2 .wrapping-add-u642 .ensures) (c .put-sums .ensures)
 
 pub add-spec : {M : Type 1} → statement M
 add-spec =

@@ -1,5 +1,5 @@
 use borrow.Author.Needs.{needs}
-use Rattle.stage.specs.Trips.{tripsAt}
+use Rattle.stage.proofs.TripLaws.{trips-made}
 use Rattle.stage.proofs.trips.trips_at.Statement.{statement}
 use Rattle.stage.proofs.trips.trips_at.Tie as tie
 
@@ -13,8 +13,8 @@ trips-over-requires : tie.Need-trips-over-requires
 trips-over-requires c κs = search needs
 
 returns : tie.Need-returns
-unfolding tripsAt
-returns c = cc
+returns c =
+    trips-made _ _ _ (c .before .before .stride-at .ensures) (c .before .distance .ensures) (c .trips-over .ensures)
 
 pub trips-at-spec : {M : Type 1} → statement M
 trips-at-spec =
