@@ -30,7 +30,7 @@ reference:
 
 # Make the computed examples anew from the independent reckoning, and compare them with those that are proved.
 examples:
-	python3 reference/examples.py --check crates/meaning/proofs
+	python3 reference/examples.py --check crates
 
 # Make the stored cases anew from the independent reckoning, and compare them with those that the program reads.
 cases:

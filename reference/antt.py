@@ -54,6 +54,7 @@ NAME = {
     "hex": "hex",
     "zero parameters": "zeroParameters",
     "define": "abbrev",
+    "returns": "Returns",
 }
 
 # Lines at the top of each file, after its own comment.
@@ -71,6 +72,12 @@ ANSWER = [
 IMPORTS = {
     "Readings.antt": [PATH, LIST, INTEGER, SPECS + "Reader.{ok, refused}", *ANSWER],
     "Known.antt": [PATH, LIST, "use lib.IntN.{pos}", SPECS + "Reader.{ok}", *ANSWER],
+    "KnownAnswers.antt": [
+        LIST, "use lib.IntN.{pos}",
+        "use Rattle.meaning.proofs.Vocabulary.{hex, zeroParameters}",
+        "use Rattle.meaning.proofs.Known.{known-sheets}",
+        "use Rattle.figures.proofs.Settled.{Returns, returns}",
+    ],
     "States.antt": [
         PATH, "use mathlib.Core.List.{List, [], _∷_}", "use mathlib.Core.Option.{none, some}", INTEGER, "use lib.ListN.{drop}",
         SPECS + "Record.{Loop, Record, workRecord, loopRecord, endRecord, choiceRecord, nextArmRecord}",

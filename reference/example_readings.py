@@ -1,4 +1,4 @@
-"""Readings.antt and Known.antt: answers and loop reports from raw bytes."""
+"""Readings.antt and Known.antt: answers and loop reports from raw bytes. KnownAnswers.antt: what the library call returns."""
 
 import sys
 
@@ -62,3 +62,19 @@ def known_file() -> str:
             case.tells, case.sheet(), case.parameters, case.budget, case.answer)
     comments = ["The ten sheets with known figures that are to be proved, from raw bytes."]
     return antt.file_text("Known.antt", comments, [antt.theorem("known-sheets", equations)])
+
+
+def known_answers_file() -> str:
+    """That the library call returns the known figures, from the theorem about the ten sheets."""
+    lines = ["pub known-answers :"]
+    proofs: list[str] = []
+    for number, case in enumerate(MARKED):
+        assert isinstance(case.answer, Figures)
+        given = [octets(case.sheet()), antt.parameters(case.parameters), str(case.budget)]
+        given += [str(figure) for figure in case.answer]
+        lines += [f"    -- {case.tells}", f"    {'× ' if number else ''}{term('returns', *given)}"]
+        # each sheet has two equations in that theorem: its answer, and its loop reports
+        proofs.append(f"returns _ _ _ _ _ _ (known-sheets .{2 * number})")
+    lines.append("known-answers = (" + ", ".join(proofs) + ")")
+    comments = ["What the library call returns for the ten sheets with known figures."]
+    return antt.file_text("KnownAnswers.antt", comments, ["\n".join(lines) + "\n"])

@@ -2,8 +2,9 @@
 
     python3 examples.py FOLDER [--check] [--trips N] [--group N] [--readings FILE]
 
-writes Readings.antt, States.antt, Calls.antt and Known.antt into FOLDER, or
-with --check compares them with what stands there.
+writes Readings.antt, States.antt, Calls.antt and Known.antt into the folder of
+proofs of the crate `meaning` below FOLDER and KnownAnswers.antt into that of
+`figures`, or with --check compares them with what stands there.
 """
 
 import argparse
@@ -11,7 +12,7 @@ import os
 import sys
 
 from example_calls import calls_file
-from example_readings import known_file, readings_file
+from example_readings import known_answers_file, known_file, readings_file
 from example_states import states_file
 
 HERE = os.path.dirname(os.path.abspath(__file__))
@@ -28,16 +29,18 @@ def main() -> None:
     parser.add_argument("--readings", default=os.path.join(HERE, "readings.txt"))
     arguments = parser.parse_args()
     texts = {
-        "Readings.antt": readings_file(arguments.readings, arguments.trips, arguments.group),
-        "States.antt": states_file(),
-        "Calls.antt": calls_file(arguments.group),
-        "Known.antt": known_file(),
+        "meaning/proofs/Readings.antt": readings_file(arguments.readings, arguments.trips, arguments.group),
+        "meaning/proofs/States.antt": states_file(),
+        "meaning/proofs/Calls.antt": calls_file(arguments.group),
+        "meaning/proofs/Known.antt": known_file(),
+        "figures/proofs/KnownAnswers.antt": known_answers_file(),
     }
     if arguments.check:
         sys.exit(compare(arguments.folder, texts))
-    os.makedirs(arguments.folder, exist_ok=True)
     for name, text in texts.items():
-        with open(os.path.join(arguments.folder, name), "w", encoding="utf-8") as file:
+        path = os.path.join(arguments.folder, name)
+        os.makedirs(os.path.dirname(path), exist_ok=True)
+        with open(path, "w", encoding="utf-8") as file:
             file.write(text)
 
 

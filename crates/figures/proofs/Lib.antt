@@ -3,3 +3,5 @@ pub mod Planning
 pub mod Demands
 pub mod Calls
 pub mod Pastes
+pub mod Settled
+pub mod KnownAnswers
