@@ -1,5 +1,5 @@
 # `make test` is the gate; the other targets are its parts, for the desk.
-.PHONY: setup test check run bench dist dist-library dist-program dist-test reference examples cases format
+.PHONY: setup test check run bench dist dist-library dist-program dist-test reference examples cases picture format
 
 test:
 	bash .ci/run
@@ -59,6 +59,10 @@ cases:
 	python3 reference/sheet_cases.py crates/vectors/data/sheets --check
 	python3 reference/loop_cases.py crates/vectors/data/loops --check
 	python3 reference/figure_cases.py crates/vectors/data/figures --check
+
+# Draw the README's picture anew from the independent reckoning.
+picture:
+	python3 reference/picture.py docs/figures.svg
 
 format:
 	rt fmt
