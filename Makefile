@@ -46,7 +46,7 @@ dist-program:
 dist-test: dist-library
 	packaging/test.sh dist
 
-# The independent reckoning's own tests.
+# The independent reckoning's own tests, and its comparison with what the documents show.
 reference:
 	python3 -m unittest discover -s reference -p 'test_*.py'
 
@@ -60,7 +60,7 @@ cases:
 	python3 reference/loop_cases.py crates/vectors/data/loops --check
 	python3 reference/figure_cases.py crates/vectors/data/figures --check
 
-# Draw the README's picture anew from the independent reckoning.
+# Draw the README's picture anew from the independent reckoning; `make reference` compares it.
 picture:
 	python3 reference/picture.py docs/figures.svg
 
