@@ -18,6 +18,8 @@ HERE = os.path.dirname(os.path.abspath(__file__))
 ROOT = os.path.dirname(HERE)
 
 ROW = re.compile(r"^│ +(\d+) │ ((?:[0-9A-F]{2} )+) *│ ([^:│]+): ([^│]*?) +│$", re.MULTILINE)
+PRINTED = re.compile(r"printf '([^']*)'")
+ESCAPE = re.compile(r"\\x([0-9a-f]{2})")
 
 
 def document(*names: str) -> str:
@@ -116,6 +118,18 @@ class Format(unittest.TestCase):
         self.assertEqual([row.offset for row in area], [0, 8, 16])
         self.assertEqual([row.name for row in area], ["least", "most", "visits"])
         self.assertEqual([row.says for row in area], [numbers(unsigned(row.data)) for row in area])
+
+
+class WorkedExample(unittest.TestCase):
+    def test_printed(self) -> None:
+        _, commands, printed = blocks_after(document("README.md"), "A worked example")
+        data = b"".join(self.decode(text) for text in PRINTED.findall(commands))
+        self.assertEqual(program_text(data).decode(), printed)
+
+    def decode(self, escapes: str) -> bytes:
+        """The bytes that printf writes for escapes of two hexadecimal digits, and nothing else."""
+        self.assertEqual(ESCAPE.sub("", escapes), "")
+        return bytes.fromhex("".join(ESCAPE.findall(escapes)))
 
 
 class Picture(unittest.TestCase):
