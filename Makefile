@@ -1,12 +1,12 @@
 # `make test` is the gate; the other targets are its parts, for the desk.
-.PHONY: setup test check run bench reference examples cases format
+.PHONY: setup test check run bench dist dist-library dist-program dist-test reference examples cases picture format
 
 test:
 	bash .ci/run
 
 # What the other targets need beyond the kit, from Debian's packages; the gate needs none of it.
 setup:
-	apt-get install -y gcc libc6-dev python3 rustc
+	apt-get install -y gcc libc6-dev pkg-config python3 rustc valgrind
 
 # Prove what changed since the last check.
 check:
@@ -24,7 +24,29 @@ bench:
 	rustc --edition 2021 -C opt-level=3 bench/main.rs -L target/staticlib -l static=figures -o target/bench
 	target/bench crates/vectors/data/figures
 
-# The independent reckoning's own tests.
+# The package: all that a host program needs, in a folder that may be moved.
+dist:
+	rm -rf dist
+	$(MAKE) dist-library
+	$(MAKE) dist-program
+
+dist-library:
+	rt staticlib figures
+	install -D -m 644 target/staticlib/libfigures.a dist/lib/libpumdalin.a
+	install -D -m 644 -t dist/include include/pumdalin.h
+	mkdir -p dist/lib/pkgconfig
+	sed "s/@VERSION@/$$(cat VERSION)/" packaging/pumdalin.pc.in > dist/lib/pkgconfig/pumdalin.pc
+	cp -r README.md $(wildcard LICENSE* LICENCE*) docs examples dist
+
+dist-program:
+	rt check bound
+	install -D -m 755 -t dist/bin target/bin/bound
+
+# Build the examples in C and Rust against the package alone, and run them, natively and under valgrind.
+dist-test: dist-library
+	packaging/test.sh dist
+
+# The independent reckoning's own tests, and its comparison with what the documents show.
 reference:
 	python3 -m unittest discover -s reference -p 'test_*.py'
 
@@ -38,6 +60,10 @@ cases:
 	python3 reference/loop_cases.py crates/vectors/data/loops --check
 	python3 reference/figure_cases.py crates/vectors/data/figures --check
 	python3 reference/stage_cases.py crates/vectors/data/stages --check
+
+# Draw the README's picture anew from the independent reckoning; `make reference` compares it.
+picture:
+	python3 reference/picture.py docs/figures.svg
 
 format:
 	rt fmt

@@ -1,18 +1,101 @@
-/* Calls pumdalin_figures from C: a sheet in read-only memory, and an answer area between guard bytes.
- * The expected figures are those that the requirement gives for this sheet. */
-#include <stdio.h>
-#include <string.h>
+/* Calls pumdalin_figures from C on the sheets whose figures the requirement gives, and once for each
+ * refusal. A wrong number, or a wrong byte anywhere in the answer area or before it, makes the exit
+ * status 1; the sheet lies in read-only memory, and a byte read or written past the end of sheet or
+ * area ends the program. */
+#define _DEFAULT_SOURCE /* for MAP_ANONYMOUS */
 
-#include "pumdalin.h"
+#include <pumdalin.h>
 
-/* start 2, step 1, i from 0 to 9, and in it a work of 3 to 5 */
-static const uint8_t sheet[] = {
-    2,  2, 0,  1, 0,  1, 0,  0, 0, 0, 0, 0, 0, 0, 0, 0,  9, 0, 0, 0, 0, 0, 0, 0, 0,
-    1,  3, 0,  5, 0,
-    3,
+#include "guarded.h"
+
+/* Sheets as constants. Two bytes of a number are the low one and the high one; a loop is followed by
+ * its lower form and its upper form. */
+#define BYTE(n) (uint8_t)((unsigned)(n) & 0xFF)
+#define TWO_BYTES(n) BYTE(n), BYTE((unsigned)(n) >> 8)
+#define WORK(least, most) 1, TWO_BYTES(least), TWO_BYTES(most)
+#define LOOP(start, step, stride) 2, TWO_BYTES(start), TWO_BYTES(step), TWO_BYTES(stride)
+#define END 3
+#define CHOICE 4
+#define NEXT_ARM 5
+#define FORM(constant, i, j, k, p1) TWO_BYTES(constant), BYTE(i), BYTE(j), BYTE(k), BYTE(p1), 0, 0, 0
+#define CONSTANT(constant) FORM(constant, 0, 0, 0, 0)
+#define INDEX_I(constant) FORM(constant, 1, 0, 0, 0)
+#define INDEX_J(constant) FORM(constant, 0, 1, 0, 0)
+#define PARAMETER_1 FORM(0, 0, 0, 0, 1)
+#define TWICE(...) __VA_ARGS__, __VA_ARGS__
+
+static const uint8_t costs[] = {LOOP(2, 1, 1), CONSTANT(0), CONSTANT(9), WORK(3, 5), END};
+static const uint8_t triangle[] = {
+    LOOP(0, 0, 1), CONSTANT(0), CONSTANT(9),
+    LOOP(0, 0, 1), CONSTANT(0), INDEX_I(-1), WORK(1, 1), END, END};
+static const uint8_t partly_empty[] = {
+    LOOP(0, 0, 1), CONSTANT(1), CONSTANT(7),
+    LOOP(0, 0, 1), INDEX_I(0), CONSTANT(2), WORK(1, 1), END, END};
+static const uint8_t uneven[] = {
+    LOOP(0, 0, 1), CONSTANT(0), CONSTANT(9),
+    LOOP(0, 0, 2), CONSTANT(0), INDEX_I(0), WORK(1, 1), END, END};
+static const uint8_t even[] = {
+    LOOP(0, 0, 2), CONSTANT(0), CONSTANT(18),
+    LOOP(0, 0, 2), CONSTANT(0), INDEX_I(0), WORK(1, 1), END, END};
+static const uint8_t three_deep[] = {
+    LOOP(0, 0, 1), CONSTANT(0), CONSTANT(9),
+    LOOP(0, 0, 1), INDEX_I(0), CONSTANT(10),
+    LOOP(0, 0, 1), INDEX_I(-3), INDEX_J(7), WORK(1, 1), END, END, END};
+static const uint8_t parameter[] = {
+    LOOP(0, 0, 1), CONSTANT(1), PARAMETER_1,
+    LOOP(0, 0, 1), INDEX_I(0), PARAMETER_1, WORK(1, 1), END, END};
+static const uint8_t loop_in_arm[] = {
+    LOOP(0, 0, 1), CONSTANT(0), CONSTANT(9),
+    CHOICE, LOOP(0, 0, 1), CONSTANT(0), INDEX_I(-1), WORK(1, 1), END,
+    NEXT_ARM, WORK(4, 4), END, END};
+static const uint8_t no_trip[] = {LOOP(0, 0, 3), CONSTANT(0), CONSTANT(-1), WORK(1, 1), END};
+static const uint8_t longest_loop[] = {LOOP(0, 0, 1), CONSTANT(0), CONSTANT(2047), WORK(1, 1), END};
+static const uint8_t too_long_loop[] = {LOOP(0, 0, 1), CONSTANT(0), CONSTANT(2048), WORK(1, 1), END};
+static const uint8_t kind_6[] = {6};
+static const uint8_t least_above_most[] = {WORK(5, 3)};
+static const uint8_t records_65[] = {TWICE(TWICE(TWICE(TWICE(TWICE(CHOICE, END))))), CHOICE};
+
+struct call {
+    const char *tells;
+    const uint8_t *sheet;
+    size_t sheet_length;
+    int16_t p1;
+    uint32_t budget;
+    size_t area_length;
+    uint32_t number;     /* what the call returns */
+    uint64_t figures[3]; /* least, most, visits where it returns 0 */
 };
 
-enum { GUARD = 8, FILL = 0xA7 };
+#define WHOLE(sheet) sheet, sizeof sheet
+#define AREA PUMDALIN_AREA_LENGTH
+
+static const struct call calls[] = {
+    {"empty sheet", costs, 0, 0, 100, AREA, 0, {0, 0, 0}},
+    {"start 2, step 1, i 0 to 9, work 3 to 5", WHOLE(costs), 0, 100, AREA, 0, {42, 62, 1}},
+    {"i 0 to 9, j 0 to i - 1", WHOLE(triangle), 0, 100, AREA, 0, {45, 45, 3}},
+    {"i 1 to 7, j i to 2", WHOLE(partly_empty), 0, 100, AREA, 0, {3, 3, 9}},
+    {"i 0 to 9, j 0 to i by 2", WHOLE(uneven), 0, 100, AREA, 0, {30, 30, 20}},
+    {"i 0 to 18 by 2, j 0 to i by 2", WHOLE(even), 0, 100, AREA, 0, {55, 55, 4}},
+    {"i 0 to 9, j i to 10, k i - 3 to j + 7", WHOLE(three_deep), 0, 100, AREA, 0, {935, 935, 15}},
+    {"i 1 to N, j i to N, N 100", WHOLE(parameter), 100, 100, AREA, 0, {5050, 5050, 4}},
+    {"i 1 to N, j i to N, N 0", WHOLE(parameter), 0, 100, AREA, 0, {0, 0, 0}},
+    {"a choice of j 0 to i - 1 and work 4", WHOLE(loop_in_arm), 0, 100, AREA, 0, {30, 55, 19}},
+    {"i 0 to -1 by 3", WHOLE(no_trip), 0, 100, AREA, 0, {0, 0, 0}},
+    {"i 0 to 2,047", WHOLE(longest_loop), 0, 100, AREA, 0, {2048, 2048, 1}},
+    {"20 visits, budget 20", WHOLE(uneven), 0, 20, AREA, 0, {30, 30, 20}},
+    {"an area of 32 bytes", WHOLE(costs), 0, 100, AREA + 8, 0, {42, 62, 1}},
+    {"a loop cut off", triangle, 20, 0, 100, AREA, PUMDALIN_CUT_OFF, {0}},
+    {"kind 6", WHOLE(kind_6), 0, 100, AREA, PUMDALIN_NO_SUCH_KIND, {0}},
+    {"a least above its most", WHOLE(least_above_most), 0, 100, AREA, PUMDALIN_FIELD, {0}},
+    {"65 records", WHOLE(records_65), 0, 100, AREA, PUMDALIN_TOO_MANY_RECORDS, {0}},
+    {"a loop left open", costs, sizeof costs - 1, 0, 100, AREA, PUMDALIN_NESTING, {0}},
+    {"i 0 to 2,048", WHOLE(too_long_loop), 0, 100, AREA, PUMDALIN_CEILING, {0}},
+    {"budget 0", WHOLE(costs), 0, 0, AREA, PUMDALIN_BUDGET, {0}},
+    {"budget 1,000,001", WHOLE(costs), 0, 1000001, AREA, PUMDALIN_BUDGET, {0}},
+    {"20 visits, budget 19", WHOLE(uneven), 0, 19, AREA, PUMDALIN_VISITS, {0}},
+    {"an area of 23 bytes", WHOLE(costs), 0, 100, AREA - 1, PUMDALIN_AREA, {0}},
+    {"no area", WHOLE(costs), 0, 100, 0, PUMDALIN_AREA, {0}},
+};
 
 static uint64_t number_at(const uint8_t *bytes)
 {
@@ -22,42 +105,55 @@ static uint64_t number_at(const uint8_t *bytes)
     return number;
 }
 
-static int still_filled(const uint8_t *bytes, size_t count)
+/* A byte of the area as it has to be after the call. */
+static uint8_t expected_byte(const struct call *call, size_t at)
 {
-    for (size_t i = 0; i < count; i++)
-        if (bytes[i] != FILL)
+    if (call->number != PUMDALIN_ANSWERED || at >= PUMDALIN_AREA_LENGTH)
+        return GUARD_FILL;
+    return BYTE(call->figures[at / 8] >> at % 8 * 8);
+}
+
+static int area_as_expected(const struct call *call, const struct guarded *area)
+{
+    for (const uint8_t *before = area->page; before < area->bytes; before++)
+        if (*before != GUARD_FILL)
+            return 0;
+    for (size_t i = 0; i < area->length; i++)
+        if (area->bytes[i] != expected_byte(call, i))
             return 0;
     return 1;
 }
 
-static int check(int holds, const char *what)
+static void print_answer(uint32_t number, const uint8_t *area)
 {
-    printf("%s: %s\n", what, holds ? "yes" : "NO");
-    return holds;
+    if (number == PUMDALIN_ANSWERED)
+        printf("best %llu worst %llu visits %llu\n", (unsigned long long)number_at(area),
+               (unsigned long long)number_at(area + 8), (unsigned long long)number_at(area + 16));
+    else
+        printf("refused %lu\n", (unsigned long)number);
+}
+
+static int made_as_expected(const struct call *call)
+{
+    struct guarded sheet = guarded_read_only_copy(call->sheet, call->sheet_length);
+    struct guarded area = guarded_bytes(call->area_length);
+    uint32_t number = pumdalin_figures(sheet.bytes, sheet.length, call->p1, 0, 0, 0, call->budget,
+                                       area.bytes, area.length);
+    int good = number == call->number && area_as_expected(call, &area);
+
+    printf("%s %s: ", good ? "good " : "WRONG", call->tells);
+    print_answer(number, area.bytes);
+    guarded_release(&sheet);
+    guarded_release(&area);
+    return good;
 }
 
 int main(void)
 {
-    uint8_t space[GUARD + PUMDALIN_AREA_LENGTH + GUARD];
-    uint8_t *area = space + GUARD;
-    int good = 1;
+    size_t count = sizeof calls / sizeof calls[0], good = 0;
 
-    memset(space, FILL, sizeof space);
-    uint32_t number = pumdalin_figures(sheet, sizeof sheet, 0, 0, 0, 0, 0, area, PUMDALIN_AREA_LENGTH);
-    good &= check(number == PUMDALIN_BUDGET, "budget 0 is refused 7");
-    number = pumdalin_figures(sheet, sizeof sheet, 0, 0, 0, 0, 100, area, PUMDALIN_AREA_LENGTH - 1);
-    good &= check(number == PUMDALIN_AREA, "an area of 23 bytes is refused 9");
-    number = pumdalin_figures(sheet, sizeof sheet - 1, 0, 0, 0, 0, 100, area, PUMDALIN_AREA_LENGTH);
-    good &= check(number == PUMDALIN_NESTING, "a loop left open is refused 5");
-    good &= check(still_filled(space, sizeof space), "refusals write nothing");
-
-    number = pumdalin_figures(sheet, sizeof sheet, 0, 0, 0, 0, 100, area, PUMDALIN_AREA_LENGTH);
-    good &= check(number == PUMDALIN_ANSWERED, "the sheet is answered");
-    good &= check(still_filled(space, GUARD) && still_filled(area + PUMDALIN_AREA_LENGTH, GUARD),
-                  "bytes around the area stay");
-    uint64_t least = number_at(area), most = number_at(area + 8), visits = number_at(area + 16);
-    printf("best %llu worst %llu visits %llu\n", (unsigned long long)least, (unsigned long long)most,
-           (unsigned long long)visits);
-    good &= check(least == 42 && most == 62 && visits == 1, "as the requirement says");
-    return good ? 0 : 1;
+    for (size_t i = 0; i < count; i++)
+        good += (size_t)made_as_expected(&calls[i]);
+    printf("%lu of %lu calls as the requirement says\n", (unsigned long)good, (unsigned long)count);
+    return good == count ? 0 : 1;
 }

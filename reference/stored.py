@@ -1,4 +1,4 @@
-"""What the generators of stored cases share: numbers in bytes, and writing or comparing a file."""
+"""What the generators of files share: numbers in bytes, and writing or comparing a file."""
 
 import argparse
 import sys

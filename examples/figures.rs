@@ -1,0 +1,193 @@
+//! Calls pumdalin_figures from Rust on the sheets whose figures the requirement gives, and once for
+//! each refusal. A wrong number, or a wrong byte anywhere in the answer area or before it, makes the
+//! exit status 1; the sheet lies in read-only memory, and a byte read or written past the end of
+//! sheet or area ends the program.
+mod guarded;
+mod pumdalin;
+
+use guarded::{Guarded, ReadOnly, FILL};
+use pumdalin::{figures, figures_in, fill, Figures, AREA_LENGTH};
+use std::process::ExitCode;
+
+const END: [u8; 1] = [3];
+const CHOICE: [u8; 1] = [4];
+const NEXT_ARM: [u8; 1] = [5];
+
+fn work(least: u16, most: u16) -> Vec<u8> {
+    [&[1][..], &least.to_le_bytes(), &most.to_le_bytes()].concat()
+}
+
+/// A form with factors of the indexes i, j and k and of parameter 1.
+fn form(constant: i16, [i, j, k]: [i8; 3], p1: i8) -> Vec<u8> {
+    let factors = [i, j, k, p1, 0, 0, 0].map(|factor| factor as u8);
+    [&constant.to_le_bytes()[..], &factors].concat()
+}
+
+fn constant(value: i16) -> Vec<u8> {
+    form(value, [0; 3], 0)
+}
+
+fn index_i(plus: i16) -> Vec<u8> {
+    form(plus, [1, 0, 0], 0)
+}
+
+fn parameter_1() -> Vec<u8> {
+    form(0, [0; 3], 1)
+}
+
+fn a_loop([start, step, stride]: [u16; 3], lower: Vec<u8>, upper: Vec<u8>) -> Vec<u8> {
+    let costs = [start, step, stride].map(u16::to_le_bytes).concat();
+    [vec![2], costs, lower, upper].concat()
+}
+
+/// A loop without costs that goes up by 1.
+fn plain(lower: Vec<u8>, upper: Vec<u8>) -> Vec<u8> {
+    a_loop([0, 0, 1], lower, upper)
+}
+
+fn by_2(lower: Vec<u8>, upper: Vec<u8>) -> Vec<u8> {
+    a_loop([0, 0, 2], lower, upper)
+}
+
+/// Loops one in the other, the innermost over this body.
+fn nest(loops: &[Vec<u8>], body: Vec<u8>) -> Vec<u8> {
+    [loops.concat(), body, END.repeat(loops.len())].concat()
+}
+
+struct Call {
+    tells: &'static str,
+    sheet: Vec<u8>,
+    p1: i16,
+    budget: u32,
+    area_length: usize,
+    answer: Result<Figures, u32>,
+}
+
+fn call(tells: &'static str, sheet: Vec<u8>, answer: Result<Figures, u32>) -> Call {
+    Call { tells, sheet, p1: 0, budget: 100, area_length: AREA_LENGTH, answer }
+}
+
+fn answered(tells: &'static str, sheet: Vec<u8>, least: u64, most: u64, visits: u64) -> Call {
+    call(tells, sheet, Ok(Figures { least, most, visits }))
+}
+
+fn refused(tells: &'static str, sheet: Vec<u8>, number: u32) -> Call {
+    call(tells, sheet, Err(number))
+}
+
+fn costs() -> Vec<u8> {
+    nest(&[a_loop([2, 1, 1], constant(0), constant(9))], work(3, 5))
+}
+
+fn triangle() -> Vec<u8> {
+    nest(&[plain(constant(0), constant(9)), plain(constant(0), index_i(-1))], work(1, 1))
+}
+
+fn uneven() -> Vec<u8> {
+    nest(&[plain(constant(0), constant(9)), by_2(constant(0), index_i(0))], work(1, 1))
+}
+
+fn parameter() -> Vec<u8> {
+    nest(&[plain(constant(1), parameter_1()), plain(index_i(0), parameter_1())], work(1, 1))
+}
+
+fn loop_in_arm() -> Vec<u8> {
+    let arm = nest(&[plain(constant(0), index_i(-1))], work(1, 1));
+    let choice = [&CHOICE[..], &arm, &NEXT_ARM, &work(4, 4), &END].concat();
+    nest(&[plain(constant(0), constant(9))], choice)
+}
+
+fn up_to(last: i16) -> Vec<u8> {
+    nest(&[plain(constant(0), constant(last))], work(1, 1))
+}
+
+fn answered_calls() -> Vec<Call> {
+    let partly_empty = [plain(constant(1), constant(7)), plain(index_i(0), constant(2))];
+    let even = [by_2(constant(0), constant(18)), by_2(constant(0), index_i(0))];
+    let three_deep = [
+        plain(constant(0), constant(9)),
+        plain(index_i(0), constant(10)),
+        plain(index_i(-3), form(7, [0, 1, 0], 0)),
+    ];
+    let no_trip = [a_loop([0, 0, 3], constant(0), constant(-1))];
+    vec![
+        answered("empty sheet", vec![], 0, 0, 0),
+        answered("start 2, step 1, i 0 to 9, work 3 to 5", costs(), 42, 62, 1),
+        answered("i 0 to 9, j 0 to i - 1", triangle(), 45, 45, 3),
+        answered("i 1 to 7, j i to 2", nest(&partly_empty, work(1, 1)), 3, 3, 9),
+        answered("i 0 to 9, j 0 to i by 2", uneven(), 30, 30, 20),
+        answered("i 0 to 18 by 2, j 0 to i by 2", nest(&even, work(1, 1)), 55, 55, 4),
+        answered("i 0 to 9, j i to 10, k i - 3 to j + 7", nest(&three_deep, work(1, 1)), 935, 935, 15),
+        Call { p1: 100, ..answered("i 1 to N, j i to N, N 100", parameter(), 5050, 5050, 4) },
+        answered("i 1 to N, j i to N, N 0", parameter(), 0, 0, 0),
+        answered("a choice of j 0 to i - 1 and work 4", loop_in_arm(), 30, 55, 19),
+        answered("i 0 to -1 by 3", nest(&no_trip, work(1, 1)), 0, 0, 0),
+        answered("i 0 to 2,047", up_to(2047), 2048, 2048, 1),
+        Call { budget: 20, ..answered("20 visits, budget 20", uneven(), 30, 30, 20) },
+        Call { area_length: 32, ..answered("an area of 32 bytes", costs(), 42, 62, 1) },
+    ]
+}
+
+fn refused_calls() -> Vec<Call> {
+    let left_open = costs()[..costs().len() - 1].to_vec();
+    let records_65 = [[CHOICE, END].concat().repeat(32), CHOICE.to_vec()].concat();
+    vec![
+        refused("a loop cut off", triangle()[..20].to_vec(), 1),
+        refused("kind 6", vec![6], 2),
+        refused("a least above its most", work(5, 3), 3),
+        refused("65 records", records_65, 4),
+        refused("a loop left open", left_open, 5),
+        refused("i 0 to 2,048", up_to(2048), 6),
+        Call { budget: 0, ..refused("budget 0", costs(), 7) },
+        Call { budget: 1_000_001, ..refused("budget 1,000,001", costs(), 7) },
+        Call { budget: 19, ..refused("20 visits, budget 19", uneven(), 8) },
+        Call { area_length: 23, ..refused("an area of 23 bytes", costs(), 9) },
+        Call { area_length: 0, ..refused("no area", costs(), 9) },
+    ]
+}
+
+/// The page that ends with the area, as it has to be after the call.
+fn expected_page(call: &Call, length: usize) -> Vec<u8> {
+    let mut page = vec![FILL; length];
+    if let Ok(figures) = call.answer {
+        let bytes = [figures.least, figures.most, figures.visits].map(u64::to_le_bytes).concat();
+        let at = length - call.area_length;
+        page[at..at + AREA_LENGTH].copy_from_slice(&bytes);
+    }
+    page
+}
+
+/// What the call answered, as the wrapper says it.
+fn answer_in(number: u32, area: &[u8]) -> Result<Figures, u32> {
+    match <&[u8; AREA_LENGTH]>::try_from(&area[..area.len().min(AREA_LENGTH)]) {
+        Ok(first) if number == 0 => Ok(figures_in(first)),
+        _ => Err(number),
+    }
+}
+
+/// The call into a guarded area, and once more by the wrapper that has its own.
+fn made_as_expected(call: &Call) -> bool {
+    let sheet = ReadOnly::copy_of(&call.sheet);
+    let mut area = Guarded::new(call.area_length);
+    let parameters = [call.p1, 0, 0, 0];
+    let number = fill(sheet.bytes(), parameters, call.budget, area.bytes_mut());
+    let answer = answer_in(number, area.bytes());
+    let mut good = answer == call.answer && area.page() == expected_page(call, area.page().len());
+    if call.area_length >= AREA_LENGTH {
+        good &= figures(sheet.bytes(), parameters, call.budget) == call.answer;
+    }
+    println!("{} {}: {answer:?}", if good { "good " } else { "WRONG" }, call.tells);
+    good
+}
+
+fn main() -> ExitCode {
+    let calls = [answered_calls(), refused_calls()];
+    let count = calls.iter().flatten().count();
+    let good = calls.iter().flatten().filter(|call| made_as_expected(call)).count();
+    println!("{good} of {count} calls as the requirement says");
+    if good == count {
+        ExitCode::SUCCESS
+    } else {
+        ExitCode::FAILURE
+    }
+}
