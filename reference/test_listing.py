@@ -9,7 +9,7 @@ from random import Random
 
 from calls import Figures, program_input
 from generate import SIZES, cases, parameters, valid_records
-from known import PARAMETER, TRIANGLE, ZERO, form, loop, span
+from known import MARKED, OTHERS, PARAMETER, TRIANGLE, ZERO, form, loop, span
 from listing_line import ListingError
 from listing_reader import read_listing
 from listing_text import form_text, listing_text
@@ -17,6 +17,7 @@ from records import Choice, End, Form, Loop, NextArm, Refusal, Work, encode_all
 from sheet import read_as_far
 
 HERE = Path(__file__).parent
+EXAMPLES = HERE.parent / "examples" / "listings"
 SHEETS = int(os.environ.get("SHEETS", "600"))
 
 TRIANGLE_LISTING = """\
@@ -194,6 +195,19 @@ class RandomSheets(unittest.TestCase):
         self.assertEqual(listing.sheet(), sheet)
         self.assertEqual(listing.given(), (values, 77))
         self.assertEqual(listing_text(listing.sheet(), *listing.given()), text)
+
+
+class Examples(unittest.TestCase):
+    def test_known_sheets(self) -> None:
+        """Every sheet with known figures is among the listings, and they have no other."""
+        listed = []
+        for path in (EXAMPLES / "known").iterdir():
+            listing = read_listing(path.read_text(encoding="utf-8"))
+            listed += [(listing.records, *said[1:]) for said in listing.expectations]
+        for case in MARKED + OTHERS:
+            with self.subTest(case.tells):
+                listed.remove((case.records, case.parameters, case.budget, case.answer))
+        self.assertEqual(listed, [])
 
 
 class CommandLine(unittest.TestCase):
