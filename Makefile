@@ -1,5 +1,5 @@
 # `make test` is the gate; the other targets are its parts, for the desk.
-.PHONY: setup test check run bench reference examples cases format
+.PHONY: setup test check run bench reference examples cases cross-check format
 
 test:
 	bash .ci/run
@@ -37,6 +37,16 @@ cases:
 	python3 reference/sheet_cases.py crates/vectors/data/sheets --check
 	python3 reference/loop_cases.py crates/vectors/data/loops --check
 	python3 reference/figure_cases.py crates/vectors/data/figures --check
+
+# Compare the static library, and bound where it is there, with the independent reckoning: the listings of
+# examples/, the kept cases, and CASES random sheets. Without SEED another one is taken each time, and named.
+CASES = 2000
+cross-check:
+	rt staticlib figures
+	$(if $(wildcard crates/bound),rt check bound)
+	cc -std=c99 -Wall -Wextra -O2 -Iinclude reference/answers.c target/staticlib/libfigures.a -o target/answers
+	python3 reference/agreement.py target/answers --program target/bin/bound --listings examples/listings \
+		--cases $(CASES) $(if $(SEED),--seed $(SEED))
 
 format:
 	rt fmt
