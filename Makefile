@@ -1,5 +1,5 @@
 # `make test` is the gate; the other targets are its parts, for the desk.
-.PHONY: setup test check run bench dist dist-library dist-program dist-test reference examples cases picture format
+.PHONY: setup test check run run-c bench dist dist-library dist-program dist-test reference examples cases cross-check picture format
 
 test:
 	bash .ci/run
@@ -12,8 +12,13 @@ setup:
 check:
 	rt check
 
-# Prove and build the static library, and call it from C.
+# Prove and build the program, and answer an example sheet.
 run:
+	rt check bound
+	target/bin/bound < examples/dispense.input
+
+# Prove and build the static library, and call it from C.
+run-c:
 	rt staticlib figures
 	cc -std=c99 -Wall -Wextra -O2 -Iinclude examples/figures.c target/staticlib/libfigures.a -o target/figures-example
 	target/figures-example
@@ -64,6 +69,16 @@ cases:
 # Draw the README's picture anew from the independent reckoning; `make reference` compares it.
 picture:
 	python3 reference/picture.py docs/figures.svg
+
+# Compare the static library and bound with the independent reckoning: the listings of
+# examples/, the kept cases, and CASES random sheets. Without SEED another one is taken each time, and named.
+CASES = 2000
+cross-check:
+	rt staticlib figures
+	rt check bound
+	cc -std=c99 -Wall -Wextra -O2 -Iinclude reference/answers.c target/staticlib/libfigures.a -o target/answers
+	python3 reference/agreement.py target/answers --program target/bin/bound --listings examples/listings \
+		--cases $(CASES) $(if $(SEED),--seed $(SEED))
 
 format:
 	rt fmt

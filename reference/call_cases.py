@@ -2,9 +2,10 @@
 
 from typing import NamedTuple
 
+import calls
 import known
 from known import ZERO, form, loop, span
-from nest import Parameters, encode_parameters
+from nest import Parameters
 from records import Choice, End, NextArm, Work, encode, encode_all
 
 TRIANGLE = encode_all(known.TRIANGLE)
@@ -87,8 +88,8 @@ class TextCase(NamedTuple):
 
 
 def program_input(sheet: bytes, parameters: Parameters = ZERO, budget: int = 100) -> bytes:
-    """Four parameters of 2 bytes, the budget of 4, the sheet."""
-    return encode_parameters(parameters) + budget.to_bytes(4, "little") + sheet
+    """The program's input; parameters 0 and budget 100 unless said."""
+    return calls.program_input(sheet, parameters, budget)
 
 
 PARAMETERS_SHEET = encode_all([

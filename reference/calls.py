@@ -4,7 +4,7 @@ from typing import NamedTuple, Union
 
 import stages
 import trips
-from nest import LoopReport, Parameters, accepted, loop_reports
+from nest import LoopReport, Parameters, accepted, encode_parameters, loop_reports
 from records import PARAMETERS, Record, Refusal, signed, unsigned
 from sheet import read
 from trips import Bounds, TooMany
@@ -72,14 +72,29 @@ class Called(NamedTuple):
 
 
 def c_call(sheet: bytes, parameters: Parameters, budget: int, area: bytes) -> Called:
-    """The C call: 9 first, then the library call; a refusal writes nothing."""
+    """The C call, from the library call's answer."""
+    return called(answer(sheet, parameters, budget), area)
+
+
+def called(result: Answer, area: bytes) -> Called:
+    """9 comes before every other refusal; a refusal writes nothing."""
     if len(area) < ANSWER_LENGTH:
         return Called(9, area)
-    result = answer(sheet, parameters, budget)
     if isinstance(result, Refusal):
         return Called(result.number, area)
     written = b"".join(figure.to_bytes(8, "little") for figure in result)
     return Called(0, written + area[ANSWER_LENGTH:])
+
+
+def program_input(sheet: bytes, parameters: Parameters, budget: int) -> bytes:
+    """What `bound` reads: four parameters of 2 bytes, the budget of 4, the sheet."""
+    return encode_parameters(parameters) + budget.to_bytes(4, "little") + sheet
+
+
+def from_input(data: bytes) -> tuple[bytes, Parameters, int]:
+    """Sheet, parameters and budget of an input that has its first 12 bytes."""
+    parameters = tuple(signed(data[2 * i:2 * i + 2]) for i in range(PARAMETERS))
+    return data[HEADER_LENGTH:], parameters, unsigned(data[8:HEADER_LENGTH])
 
 
 def program_text(data: bytes) -> bytes:
@@ -87,14 +102,14 @@ def program_text(data: bytes) -> bytes:
     data = data[:INPUT_LIMIT]
     if len(data) < HEADER_LENGTH:
         return b"refused 1 at 0\n"
-    parameters = tuple(signed(data[2 * i:2 * i + 2]) for i in range(PARAMETERS))
-    budget = unsigned(data[8:HEADER_LENGTH])
-    sheet = data[HEADER_LENGTH:]
-    result = answer(sheet, parameters, budget)
+    sheet, parameters, budget = from_input(data)
+    return answer_text(answer(sheet, parameters, budget), reports(sheet, parameters))
+
+
+def answer_text(result: Answer, loops: list[LoopReport]) -> bytes:
+    """The text of an answer; a refusal's has no line for a loop."""
     if isinstance(result, Refusal):
         return f"refused {result.number} at {result.place}\n".encode()
     lines = [f"best {result.least} worst {result.most} visits {result.visits}\n"]
-    for report in reports(sheet, parameters):
-        way = "closed" if report.closed else "walked"
-        lines.append(f"loop {report.offset} {way} ceiling {report.ceiling}\n")
+    lines += [f"loop {report.text()}\n" for report in loops]
     return "".join(lines).encode()

@@ -42,15 +42,15 @@ def figure_case(case: Case, result: Answer) -> bytes:
     return head + case.sheet + given + area
 
 
-def with_edges(case: Case) -> list[bytes]:
-    """The case, and with figures also at the budgets around its visits."""
+def with_edges(case: Case) -> list[tuple[Case, Answer]]:
+    """The case with its answer, and with figures also at the budgets around its visits."""
     result = reckoned(case)
-    made = [figure_case(case, result)]
+    answered = [(case, result)]
     if isinstance(result, Figures) and result.visits > 1:
         for budget in (result.visits, result.visits - 1):
             edge = case._replace(budget=budget)
-            made.append(figure_case(edge, reckoned(edge)))
-    return made
+            answered.append((edge, reckoned(edge)))
+    return answered
 
 
 def all_cases() -> bytes:
@@ -60,7 +60,7 @@ def all_cases() -> bytes:
     given += [Case("known", k.sheet(), k.parameters, k.budget) for k in known.MARKED]
     for name, size in SIZES.items():
         given += cases(random, RANDOM_CASES[name], size)
-    return b"".join(made for case in given for made in with_edges(case))
+    return b"".join(figure_case(*answered) for case in given for answered in with_edges(case))
 
 
 if __name__ == "__main__":

@@ -80,6 +80,9 @@ class LoopReport(NamedTuple):
     closed: bool
     ceiling: int
 
+    def text(self) -> str:
+        return f"{self.offset} {'closed' if self.closed else 'walked'} ceiling {self.ceiling}"
+
 
 def facts(records: list[Record], parameters: Parameters) -> dict[int, LoopFacts]:
     """The facts of every loop, by the position of its record, in sheet order."""

@@ -1,6 +1,6 @@
 """Reading and writing sheets: refusals 1 to 5, and 9 of the writer."""
 
-from typing import NamedTuple, Union
+from typing import NamedTuple, Optional, Union
 
 from records import (
     BODY_LENGTH, CHOICE, COST_LIMIT, END, KIND_OF, LOOP, MOST_LOOPS_DEEP,
@@ -79,28 +79,32 @@ def after(kind: int, open_kinds: list[int]) -> list[int]:
 
 
 def read(sheet: bytes) -> Union[list[Record], Refusal]:
-    """The records, or a refusal: 4, 2, 1, 3, 5 record by record, then open at the end."""
+    """The records, or a refusal."""
+    records, refusal = read_as_far(sheet)
+    return refusal or records
+
+
+def read_as_far(sheet: bytes) -> tuple[list[Record], Optional[Refusal]]:
+    """The records up to a refusal: 4, 2, 1, 3, 5 record by record, then open at the end."""
     records: list[Record] = []
     open_kinds: list[int] = []
     offset = 0
     while offset < len(sheet):
         if len(records) == MOST_RECORDS:
-            return Refusal(4, offset)
+            return records, Refusal(4, offset)
         found = record_at(sheet, offset)
         if isinstance(found, Refusal):
-            return found
+            return records, found
         body_end = found.body_offset + found.body_length
         record = decode(found.kind, sheet[found.body_offset:body_end])
         if not in_range(record, open_kinds):
-            return Refusal(3, offset)
+            return records, Refusal(3, offset)
         if not in_place(found.kind, open_kinds):
-            return Refusal(5, offset)
+            return records, Refusal(5, offset)
         open_kinds = after(found.kind, open_kinds)
         records.append(record)
         offset = body_end
-    if open_kinds:
-        return Refusal(5, len(sheet))
-    return records
+    return records, Refusal(5, len(sheet)) if open_kinds else None
 
 
 class RawRecord(NamedTuple):

@@ -11,6 +11,7 @@ from typing import NamedTuple
 import known
 import picture
 from calls import c_call, program_text
+from listing import made
 from nest import loop_reports
 from records import Form, Loop, Record, Work, encode, encode_all, signed, unsigned
 
@@ -18,8 +19,6 @@ HERE = os.path.dirname(os.path.abspath(__file__))
 ROOT = os.path.dirname(HERE)
 
 ROW = re.compile(r"^│ +(\d+) │ ((?:[0-9A-F]{2} )+) *│ ([^:│]+): ([^│]*?) +│$", re.MULTILINE)
-PRINTED = re.compile(r"printf '([^']*)'")
-ESCAPE = re.compile(r"\\x([0-9a-f]{2})")
 
 
 def document(*names: str) -> str:
@@ -121,15 +120,20 @@ class Format(unittest.TestCase):
 
 
 class WorkedExample(unittest.TestCase):
-    def test_printed(self) -> None:
-        _, commands, printed = blocks_after(document("README.md"), "A worked example")
-        data = b"".join(self.decode(text) for text in PRINTED.findall(commands))
-        self.assertEqual(program_text(data).decode(), printed)
+    def setUp(self) -> None:
+        _, self.listing, self.printed = blocks_after(document("README.md"), "A worked example")
 
-    def decode(self, escapes: str) -> bytes:
-        """The bytes that printf writes for escapes of two hexadecimal digits, and nothing else."""
-        self.assertEqual(ESCAPE.sub("", escapes), "")
-        return bytes.fromhex("".join(ESCAPE.findall(escapes)))
+    def test_listing(self) -> None:
+        """The README's listing is the one of the examples, but for its comments."""
+        stored = document("examples", "listings", "firmware", "dispense.listing")
+        lines = [line for line in stored.splitlines(keepends=True) if not line.startswith("#")]
+        self.assertEqual(self.listing, "".join(lines))
+
+    def test_printed(self) -> None:
+        with open(os.path.join(ROOT, "examples", "dispense.input"), "rb") as file:
+            data = file.read()
+        self.assertEqual(data, made(self.listing, True))
+        self.assertEqual(program_text(data).decode(), self.printed)
 
 
 class Picture(unittest.TestCase):
