@@ -221,7 +221,7 @@ module _ (ps : List ℤ) where
         polynomial-⊕ p (polynomial-fixed (exactly (l .step)))
 
     -- so its sum follows from the visited trips
-    closed-figure-exact : (l : Loop) (body : Block) → Sound body → (ranges : List Range) (indexes : List ℤ) → Inside indexes ranges → T (closed ps l body ranges) →
+    pub closed-figure-exact : (l : Loop) (body : Block) → Sound body → (ranges : List Range) (indexes : List ℤ) → Inside indexes ranges → T (closed ps l body ranges) →
         newtonSum (trips ps l indexes) (map (λ b. pos (figure b)) (firstSums (min (trips ps l indexes) (suc (height body))) (tripTime ps l body indexes)))
         ≡ pos (figure (sumOver (trips ps l indexes) (tripTime ps l body indexes)))
     closed-figure-exact l body sound ranges indexes inside t =
