@@ -1,18 +1,18 @@
 -- The numbers kept of a closed loop's trips give the sum of all its trips, modulo 2^64 and so exactly.
-use mathlib.Core.Path.{_≡_, refl, sym, ap, _∙_, subst}
-use mathlib.Core.List.{List, [], _∷_, _++_, map, map-append}
+use mathlib.Core.Path.{_≡_, refl, ap, _∙_}
+use mathlib.Core.List.{List, [], _∷_, _++_, map}
 use Prim.Native.Nat.{ℕ, zero, suc, _+_, _^_, min, _≤_, _<_}
 use native.Mathlib.Nat.{mod-eq-of-lt}
 use native.Mathlib.Omega.{arith}
-use lib.IntN.{ℤ, pos, _+ℤ_}
+use lib.IntN.{ℤ, pos}
 use lib.Dec.{T}
 use lib.ListN.{length, getD, take}
 use Rattle.whole.specs.Integer.{floorRemainder}
 use Rattle.whole.specs.Newton.{newtonSum}
 use Rattle.meaning.specs.Record.{Loop}
 use Rattle.meaning.specs.Tree.{Block, height}
-use Rattle.meaning.specs.Time.{Bounds, exactly, _⊕_, sumOver, trips, time}
-use Rattle.meaning.specs.Range.{Range, innerRanges}
+use Rattle.meaning.specs.Time.{Bounds, exactly, _⊕_, sumOver, trips}
+use Rattle.meaning.specs.Range.{Range}
 use Rattle.meaning.specs.Closed.{closed}
 use Rattle.meaning.proofs.Sound.{Sound}
 use Rattle.meaning.proofs.Trips.{Inside, firstSums, tripTime}

@@ -17,11 +17,16 @@ use sheet::record::Record;
 use sheet::writer::WriteAnswer;
 use sheet::writer::write_sheet;
 
+fn same_three(a: [i8; 3], b: [i8; 3]) -> bool {
+    a[0] == b[0] && a[1] == b[1] && a[2] == b[2]
+}
+
+fn same_four(a: [i8; 4], b: [i8; 4]) -> bool {
+    a[0] == b[0] && a[1] == b[1] && a[2] == b[2] && a[3] == b[3]
+}
+
 fn same_form(a: PackedForm, b: PackedForm) -> bool {
-    let index = a.index[0] == b.index[0] && a.index[1] == b.index[1] && a.index[2] == b.index[2];
-    let first = a.parameter[0] == b.parameter[0] && a.parameter[1] == b.parameter[1];
-    let second = a.parameter[2] == b.parameter[2] && a.parameter[3] == b.parameter[3];
-    a.constant == b.constant && index && first && second
+    a.constant == b.constant && same_three(a.index, b.index) && same_four(a.parameter, b.parameter)
 }
 
 fn same_record(a: Record, b: Record) -> bool {

@@ -1,10 +1,10 @@
 -- The invariant: the first `j` numbers are stored.
-use mathlib.Core.Path.{_≡_, refl, sym, ap, _∙_}
+use mathlib.Core.Path.{_≡_, sym, ap, _∙_}
 use native.Mathlib.Omega.{arith}
 use native.Mathlib.Numerals.{add-one}
-use Prim.Native.Nat.{ℕ, suc, _≤_, _-_, _*_, _+_}
+use Prim.Native.Nat.{ℕ, _≤_, _-_, _*_, _+_}
 use mathlib.Core.List.{List}
-use lib.ListN.{length, set, getD}
+use lib.ListN.{set, getD}
 use lib.Seq.{paste, paste-zero, paste-suc}
 use borrow.Author.Needs.{needs}
 use Rattle.nest.proofs.cells.put_cells.Statement.{statement}

@@ -1,4 +1,4 @@
-use mathlib.Core.Path.{_∙_, sym, ap}
+use mathlib.Core.Path.{_∙_, ap}
 use Rattle.nest.specs.Slopes.{wordOf}
 use Rattle.nest.specs.Facts.{pushWord}
 use borrow.Author.Tests.{lt-ltb, le-ltb}

@@ -1,4 +1,4 @@
-use mathlib.Core.Path.{_∙_, sym, ap}
+use mathlib.Core.Path.{_∙_, ap}
 use mathlib.Core.List.{[]}
 use lib.ListN.{set, getD}
 use Rattle.nest.specs.Facts.{rowWith}

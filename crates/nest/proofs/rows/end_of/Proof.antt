@@ -1,7 +1,7 @@
 use native.Mathlib.Omega.{arith}
 use Prim.Native.Nat.{_-_}
 use borrow.Author.Needs.{needs}
-use Rattle.nest.proofs.Endings.{Ending, ending-start, ending-done, ending-found, ending-forward, ending-next, few-records}
+use Rattle.nest.proofs.Endings.{Ending, ending-start, ending-done, ending-found, ending-forward, ending-next}
 use Rattle.nest.proofs.rows.end_of.Statement.{statement}
 use Rattle.nest.proofs.rows.end_of.Tie as tie
 

@@ -1,5 +1,5 @@
 -- The invariant: the rows of the first `k` records are laid, and the walk stands before record `k`.
-use mathlib.Core.Path.{_∙_, sym, ap}
+use mathlib.Core.Path.{_∙_, ap}
 use mathlib.Core.List.{[]}
 use native.Mathlib.Omega.{arith}
 use Prim.Native.Nat.{_-_, _+_}
