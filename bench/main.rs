@@ -38,7 +38,11 @@ fn plain(sheet: &[u8], p: [i16; 4], budget: u32) -> Result<[u64; 3], u32> {
     plain::figures(sheet, p, budget).map_err(|r| r.0)
 }
 
-/// Both against each other on the stored cases of the calls.
+fn in_place(sheet: &[u8], p: [i16; 4], budget: u32) -> Result<[u64; 3], u32> {
+    plain::figures_in_place(sheet, p, budget).map_err(|r| r.0)
+}
+
+/// All of them against each other on the stored cases of the calls.
 fn agree(path: &str) -> usize {
     let data = std::fs::read(path).expect("the stored cases");
     let (mut at, mut count) = (0, 0);
@@ -49,7 +53,14 @@ fn agree(path: &str) -> usize {
         let given = at + 12 + length;
         let p = [0, 2, 4, 6].map(|i| number(given + i) as i16);
         let budget = u32::from_le_bytes(data[given + 8..given + 12].try_into().unwrap());
-        assert_eq!(proved(sheet, p, budget), plain(sheet, p, budget), "case {count}");
+        let answer = proved(sheet, p, budget);
+        assert_eq!(answer, plain(sheet, p, budget), "case {count}");
+        assert_eq!(answer, in_place(sheet, p, budget), "case {count}");
+        if let Ok([least, most, _]) = answer {
+            if most < 1 << 30 {
+                assert_eq!(plain::trip_by_trip(sheet, p), Ok([least, most]), "case {count}");
+            }
+        }
         at = given + 36;
         count += 1;
     }
@@ -64,7 +75,11 @@ fn form(constant: i16, index: [i8; 3]) -> Vec<u8> {
 }
 
 fn a_loop(lower: Vec<u8>, upper: Vec<u8>) -> Vec<u8> {
-    [vec![2, 2, 0, 1, 0, 1, 0], lower, upper].concat()
+    a_loop_by(1, lower, upper)
+}
+
+fn a_loop_by(stride: u8, lower: Vec<u8>, upper: Vec<u8>) -> Vec<u8> {
+    [vec![2, 2, 0, 1, 0, stride, 0], lower, upper].concat()
 }
 
 /// Four loops of so many trips, each starting where the one around it stands.
@@ -73,19 +88,22 @@ fn slanted(trips: i16) -> Vec<u8> {
     factors.iter().flat_map(|f| a_loop(form(0, *f), form(trips - 1, *f))).collect()
 }
 
-fn sheets() -> Vec<(&'static str, Vec<u8>)> {
+/// A name, the sheet, and whether its trips can be gone through one by one.
+fn sheets() -> Vec<(&'static str, Vec<u8>, bool)> {
     let work = vec![1, 3, 0, 5, 0];
     let triangle = [a_loop(form(0, [0; 3]), form(9, [0; 3])), a_loop(form(0, [0; 3]), form(-1, [1, 0, 0]))].concat();
     let walked = |trips: i16| [a_loop(form(0, [0; 3]), form(trips - 1, [0; 3])), vec![4]].concat();
     let inner = [a_loop(form(0, [0; 3]), form(0, [0; 3])), work.clone(), vec![3]].concat();
     let arm = [a_loop(form(0, [0; 3]), form(-1, [1, 0, 0])), work.clone(), vec![3, 5]].concat();
+    let halves = [a_loop(form(0, [0; 3]), form(9, [0; 3])), a_loop_by(2, form(0, [0; 3]), form(0, [1, 0, 0]))].concat();
     vec![
-        ("one loop of ten trips", [a_loop(form(0, [0; 3]), form(9, [0; 3])), work.clone(), vec![3]].concat()),
-        ("triangle", [triangle, work.clone(), vec![3, 3]].concat()),
-        ("64 records, plan only", [slanted(0), vec![3; 4]].concat().repeat(8)),
-        ("64 records, four deep, 2^44 trips", [slanted(2048), work.repeat(56), vec![3; 4]].concat()),
-        ("walked, 600,300 visits", [walked(300), walked(1000), inner, vec![3; 4]].concat()),
-        ("choices that hold loops", [walked(100), arm, work, vec![3; 2]].concat()),
+        ("one loop of ten trips", [a_loop(form(0, [0; 3]), form(9, [0; 3])), work.clone(), vec![3]].concat(), true),
+        ("triangle", [triangle, work.clone(), vec![3, 3]].concat(), true),
+        ("small walked nest", [halves, work.clone(), vec![3, 3]].concat(), true),
+        ("64 records, plan only", [slanted(0), vec![3; 4]].concat().repeat(8), true),
+        ("64 records, four deep, 2^44 trips", [slanted(2048), work.repeat(56), vec![3; 4]].concat(), false),
+        ("walked, 600,300 visits", [walked(300), walked(1000), inner, vec![3; 4]].concat(), true),
+        ("choices that hold loops", [walked(100), arm, work, vec![3; 2]].concat(), true),
     ]
 }
 
@@ -105,21 +123,53 @@ fn best(calls: &dyn Fn()) -> f64 {
     least
 }
 
+type Call = fn(&[u8], [i16; 4], u32) -> Result<[u64; 3], u32>;
+
+const NO_PARAMETERS: [i16; 4] = [0; 4];
+const LARGEST_BUDGET: u32 = 1_000_000;
+
+fn call_time(call: Call, sheet: &[u8], budget: u32) -> f64 {
+    best(&|| {
+        let _ = black_box(call(black_box(sheet), NO_PARAMETERS, budget));
+    })
+}
+
+/// A call with budget 1 stops after two stages, so that the difference of two calls is that of the other stages alone.
+fn stage_time(call: Call, sheet: &[u8], visits: u64) -> f64 {
+    (call_time(call, sheet, LARGEST_BUDGET) - call_time(call, sheet, 1)) / (visits - 1) as f64
+}
+
+fn print_calls() {
+    println!("{:34} {:>11} {:>11} {:>6} {:>11} {:>6} {:>13} {:>7}",
+        "a call, ns", "proved", "by value", "ratio", "in place", "ratio", "trip by trip", "visits");
+    for (name, sheet, few_trips) in sheets() {
+        let visits = proved(&sheet, NO_PARAMETERS, LARGEST_BUDGET).expect("figures")[2];
+        let [ours, by_value, kept] = [proved, plain, in_place].map(|call| call_time(call, &sheet, LARGEST_BUDGET));
+        let walked = if few_trips {
+            format!("{:.0}", best(&|| { let _ = black_box(plain::trip_by_trip(black_box(&sheet), NO_PARAMETERS)); }))
+        } else {
+            "-".to_string()
+        };
+        println!("{name:34} {ours:11.0} {by_value:11.0} {:6.2} {kept:11.0} {:6.2} {walked:>13} {visits:7}",
+            ours / by_value, ours / kept);
+    }
+}
+
+fn print_stages() {
+    println!("\n{:34} {:>11} {:>11} {:>6} {:>11} {:>6}", "a stage, ns", "proved", "by value", "ratio", "in place", "ratio");
+    for (name, sheet, _) in sheets() {
+        let visits = proved(&sheet, NO_PARAMETERS, LARGEST_BUDGET).expect("figures")[2];
+        if visits < 10 {
+            continue;
+        }
+        let [ours, by_value, kept] = [proved, plain, in_place].map(|call| stage_time(call, &sheet, visits));
+        println!("{name:34} {ours:11.1} {by_value:11.1} {:6.2} {kept:11.1} {:6.2}", ours / by_value, ours / kept);
+    }
+}
+
 fn main() {
     let path = std::env::args().nth(1).expect("the file of stored cases");
-    println!("{} stored cases: both agree", agree(&path));
-    println!("{:36} {:>12} {:>12} {:>8} {:>8}", "sheet", "proved, ns", "plain, ns", "ratio", "visits");
-    for (name, sheet) in sheets() {
-        let p = [0i16; 4];
-        let answer = proved(&sheet, p, 1_000_000);
-        assert_eq!(answer, plain(&sheet, p, 1_000_000));
-        let ours = best(&|| {
-            let _ = black_box(proved(black_box(&sheet), p, 1_000_000));
-        });
-        let theirs = best(&|| {
-            let _ = black_box(plain(black_box(&sheet), p, 1_000_000));
-        });
-        let visits = answer.expect("figures")[2];
-        println!("{name:36} {ours:12.0} {theirs:12.0} {:8.2} {visits:8}", ours / theirs);
-    }
+    println!("{} stored cases: all agree", agree(&path));
+    print_calls();
+    print_stages();
 }

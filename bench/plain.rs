@@ -1,4 +1,4 @@
-//! The same answers by plain Rust: a reader, the loops' facts, and a stage machine with its state by value.
+//! The same answers by plain Rust: a reader, the loops' facts, and a stage machine, with its state by value or in place.
 
 pub type Refused = (u32, usize);
 
@@ -318,8 +318,15 @@ impl State {
     }
 }
 
+/// A function of its own from a state to the next, as a library has it: the state goes in and comes out by value.
+#[inline(never)]
+fn stage_by_value(plan: &Plan, s: State) -> State {
+    stage(plan, s)
+}
+
 /// From the start of one visit to the start of the next, or to the sheet's end.
-pub fn stage(plan: &Plan, mut s: State) -> State {
+#[inline(always)]
+fn stage(plan: &Plan, mut s: State) -> State {
     while s.at < plan.count {
         let r = &plan.records[s.at];
         match r.kind {
@@ -358,17 +365,76 @@ pub fn stage(plan: &Plan, mut s: State) -> State {
     s
 }
 
-pub fn figures(sheet: &[u8], parameters: [i16; 4], budget: u32) -> Result<[u64; 3], Refused> {
-    if budget == 0 || budget > 1_000_000 {
-        return Err((7, 0));
-    }
-    let plan = plan(sheet, parameters)?;
+fn repeated(plan: &Plan, budget: u32, next: impl Fn(&Plan, State) -> State) -> Result<[u64; 3], Refused> {
     let mut s = State::default();
     while s.at < plan.count {
-        s = stage(&plan, s);
+        s = next(plan, s);
         if s.visits > budget as u64 {
             return Err((8, 0));
         }
     }
     Ok([s.sums[0], s.sums[1], s.visits])
+}
+
+fn planned(sheet: &[u8], parameters: [i16; 4], budget: u32) -> Result<Plan, Refused> {
+    if budget == 0 || budget > 1_000_000 {
+        return Err((7, 0));
+    }
+    plan(sheet, parameters)
+}
+
+/// Each stage gets the state that the last one returned.
+pub fn figures(sheet: &[u8], parameters: [i16; 4], budget: u32) -> Result<[u64; 3], Refused> {
+    repeated(&planned(sheet, parameters, budget)?, budget, stage_by_value)
+}
+
+/// The stage is part of the loop, and the compiler keeps the state where it is.
+pub fn figures_in_place(sheet: &[u8], parameters: [i16; 4], budget: u32) -> Result<[u64; 3], Refused> {
+    repeated(&planned(sheet, parameters, budget)?, budget, stage)
+}
+
+/// Every trip, one after another, of the records up to the end or next arm that closes them.
+fn walk(plan: &Plan, mut at: usize, counters: &mut [u64; 4]) -> ([u64; 2], usize) {
+    let mut sums = [0u64; 2];
+    while at < plan.count {
+        let r = &plan.records[at];
+        let add = match r.kind {
+            1 => [r.first, r.second],
+            2 => walk_loop(plan, at, counters),
+            4 => walk_arms(plan, at, counters),
+            _ => return (sums, at),
+        };
+        sums = [sums[0] + add[0], sums[1] + add[1]];
+        at = if r.kind == 1 { at + 1 } else { r.partner + 1 };
+    }
+    (sums, at)
+}
+
+fn walk_loop(plan: &Plan, at: usize, counters: &mut [u64; 4]) -> [u64; 2] {
+    let r = &plan.records[at];
+    let mut sums = [r.first; 2];
+    for counter in 0..trips(r, counters) {
+        counters[r.depth] = counter;
+        let (body, _) = walk(plan, at + 1, counters);
+        sums = [sums[0] + body[0] + r.second, sums[1] + body[1] + r.second];
+    }
+    counters[r.depth] = 0;
+    sums
+}
+
+fn walk_arms(plan: &Plan, at: usize, counters: &mut [u64; 4]) -> [u64; 2] {
+    let end = plan.records[at].partner;
+    let (mut sums, mut stop) = walk(plan, at + 1, counters);
+    while stop < end {
+        let (arm, next) = walk(plan, stop + 1, counters);
+        sums = [sums[0].min(arm[0]), sums[1].max(arm[1])];
+        stop = next;
+    }
+    sums
+}
+
+/// Least and most trip by trip, with no differences and no visits.
+pub fn trip_by_trip(sheet: &[u8], parameters: [i16; 4]) -> Result<[u64; 2], Refused> {
+    let plan = plan(sheet, parameters)?;
+    Ok(walk(&plan, 0, &mut [0; 4]).0)
 }

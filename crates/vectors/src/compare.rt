@@ -26,7 +26,12 @@ fn same_four(a: [i8; 4], b: [i8; 4]) -> bool {
 }
 
 fn same_form(a: PackedForm, b: PackedForm) -> bool {
-    a.constant == b.constant && same_three(a.index, b.index) && same_four(a.parameter, b.parameter)
+    let index = a.index;
+    let parameter = a.parameter;
+    let other_index = b.index;
+    let other_parameter = b.parameter;
+    let indexes = same_three(index, other_index);
+    a.constant == b.constant && indexes && same_four(parameter, other_parameter)
 }
 
 fn same_record(a: Record, b: Record) -> bool {
