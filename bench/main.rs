@@ -18,8 +18,8 @@ extern "C" {
     ) -> u32;
 }
 
-const ROUNDS: usize = 9;
-const NANOSECONDS_A_ROUND: u128 = 60_000_000;
+const ROUNDS: usize = 15;
+const NANOSECONDS_A_ROUND: u128 = 30_000_000;
 
 fn proved(sheet: &[u8], p: [i16; 4], budget: u32) -> Result<[u64; 3], u32> {
     let mut area = [0u8; 24];
@@ -107,18 +107,25 @@ fn sheets() -> Vec<(&'static str, Vec<u8>, bool)> {
     ]
 }
 
-/// The best time of a call among the rounds, in nanoseconds.
-fn best(calls: &dyn Fn()) -> f64 {
+/// How often a call fits into a round.
+fn repeats(call: &dyn Fn()) -> u128 {
     let started = Instant::now();
-    calls();
-    let repeats = (NANOSECONDS_A_ROUND / started.elapsed().as_nanos().max(1)).clamp(1, 1_000_000);
-    let mut least = f64::MAX;
+    call();
+    (NANOSECONDS_A_ROUND / started.elapsed().as_nanos().max(1)).clamp(1, 1_000_000)
+}
+
+/// The best time of each call among the rounds, in nanoseconds. The calls take turns, so that a slow moment of the machine meets all of them.
+fn best<const N: usize>(calls: [&dyn Fn(); N]) -> [f64; N] {
+    let repeats = calls.map(repeats);
+    let mut least = [f64::MAX; N];
     for _ in 0..ROUNDS {
-        let started = Instant::now();
-        for _ in 0..repeats {
-            calls();
+        for (i, call) in calls.iter().enumerate() {
+            let started = Instant::now();
+            for _ in 0..repeats[i] {
+                call();
+            }
+            least[i] = least[i].min(started.elapsed().as_nanos() as f64 / repeats[i] as f64);
         }
-        least = least.min(started.elapsed().as_nanos() as f64 / repeats as f64);
     }
     least
 }
@@ -128,15 +135,30 @@ type Call = fn(&[u8], [i16; 4], u32) -> Result<[u64; 3], u32>;
 const NO_PARAMETERS: [i16; 4] = [0; 4];
 const LARGEST_BUDGET: u32 = 1_000_000;
 
-fn call_time(call: Call, sheet: &[u8], budget: u32) -> f64 {
-    best(&|| {
-        let _ = black_box(call(black_box(sheet), NO_PARAMETERS, budget));
-    })
+/// The proved call, plain Rust by value, and plain Rust in place.
+const CALLS: [Call; 3] = [proved, plain, in_place];
+
+fn call_times(sheet: &[u8], budget: u32) -> [f64; 3] {
+    let [first, second, third] = CALLS.map(|call| {
+        move || {
+            let _ = black_box(call(black_box(sheet), NO_PARAMETERS, budget));
+        }
+    });
+    best([&first, &second, &third])
 }
 
 /// A call with budget 1 stops after two stages, so that the difference of two calls is that of the other stages alone.
-fn stage_time(call: Call, sheet: &[u8], visits: u64) -> f64 {
-    (call_time(call, sheet, LARGEST_BUDGET) - call_time(call, sheet, 1)) / (visits - 1) as f64
+fn stage_times(sheet: &[u8], visits: u64) -> [f64; 3] {
+    let whole = call_times(sheet, LARGEST_BUDGET);
+    let begun = call_times(sheet, 1);
+    [0, 1, 2].map(|i| (whole[i] - begun[i]) / (visits - 1) as f64)
+}
+
+fn trip_by_trip_time(sheet: &[u8]) -> f64 {
+    let [time] = best([&|| {
+        let _ = black_box(plain::trip_by_trip(black_box(sheet), NO_PARAMETERS));
+    }]);
+    time
 }
 
 fn print_calls() {
@@ -144,14 +166,10 @@ fn print_calls() {
         "a call, ns", "proved", "by value", "ratio", "in place", "ratio", "trip by trip", "visits");
     for (name, sheet, few_trips) in sheets() {
         let visits = proved(&sheet, NO_PARAMETERS, LARGEST_BUDGET).expect("figures")[2];
-        let [ours, by_value, kept] = [proved, plain, in_place].map(|call| call_time(call, &sheet, LARGEST_BUDGET));
-        let walked = if few_trips {
-            format!("{:.0}", best(&|| { let _ = black_box(plain::trip_by_trip(black_box(&sheet), NO_PARAMETERS)); }))
-        } else {
-            "-".to_string()
-        };
-        println!("{name:34} {ours:11.0} {by_value:11.0} {:6.2} {kept:11.0} {:6.2} {walked:>13} {visits:7}",
-            ours / by_value, ours / kept);
+        let [ours, by_value, in_place] = call_times(&sheet, LARGEST_BUDGET);
+        let walked = if few_trips { format!("{:.0}", trip_by_trip_time(&sheet)) } else { "-".to_string() };
+        println!("{name:34} {ours:11.0} {by_value:11.0} {:6.2} {in_place:11.0} {:6.2} {walked:>13} {visits:7}",
+            ours / by_value, ours / in_place);
     }
 }
 
@@ -162,8 +180,8 @@ fn print_stages() {
         if visits < 10 {
             continue;
         }
-        let [ours, by_value, kept] = [proved, plain, in_place].map(|call| stage_time(call, &sheet, visits));
-        println!("{name:34} {ours:11.1} {by_value:11.1} {:6.2} {kept:11.1} {:6.2}", ours / by_value, ours / kept);
+        let [ours, by_value, in_place] = stage_times(&sheet, visits);
+        println!("{name:34} {ours:11.1} {by_value:11.1} {:6.2} {in_place:11.1} {:6.2}", ours / by_value, ours / in_place);
     }
 }
 

@@ -253,11 +253,10 @@ fn newton(n: u64, known: usize, v: [u64; 4]) -> u64 {
 }
 
 impl State {
-    fn begin(&mut self, at: usize) -> State {
+    fn begin(&mut self, at: usize) {
         self.sums = [0; 2];
         self.visits += 1;
         self.at = at;
-        *self
     }
 
     fn add(&mut self, by: [u64; 2]) {
@@ -318,15 +317,8 @@ impl State {
     }
 }
 
-/// A function of its own from a state to the next, as a library has it: the state goes in and comes out by value.
-#[inline(never)]
-fn stage_by_value(plan: &Plan, s: State) -> State {
-    stage(plan, s)
-}
-
 /// From the start of one visit to the start of the next, or to the sheet's end.
-#[inline(always)]
-fn stage(plan: &Plan, mut s: State) -> State {
+fn stage(plan: &Plan, s: &mut State) {
     while s.at < plan.count {
         let r = &plan.records[s.at];
         match r.kind {
@@ -355,25 +347,20 @@ fn stage(plan: &Plan, mut s: State) -> State {
                     s.add(f.passed);
                     s.frames[o.opened] = Frame::default();
                 } else if s.end_trip(o, opener) {
-                    return s;
+                    return;
                 }
                 s.at = at;
             }
         }
         s.at += 1;
     }
-    s
 }
 
-fn repeated(plan: &Plan, budget: u32, next: impl Fn(&Plan, State) -> State) -> Result<[u64; 3], Refused> {
-    let mut s = State::default();
-    while s.at < plan.count {
-        s = next(plan, s);
-        if s.visits > budget as u64 {
-            return Err((8, 0));
-        }
-    }
-    Ok([s.sums[0], s.sums[1], s.visits])
+/// The same as a function from a state by value to the next, which is a call of its own as in a library.
+#[inline(never)]
+fn next_state(plan: &Plan, mut s: State) -> State {
+    stage(plan, &mut s);
+    s
 }
 
 fn planned(sheet: &[u8], parameters: [i16; 4], budget: u32) -> Result<Plan, Refused> {
@@ -383,14 +370,31 @@ fn planned(sheet: &[u8], parameters: [i16; 4], budget: u32) -> Result<Plan, Refu
     plan(sheet, parameters)
 }
 
-/// Each stage gets the state that the last one returned.
-pub fn figures(sheet: &[u8], parameters: [i16; 4], budget: u32) -> Result<[u64; 3], Refused> {
-    repeated(&planned(sheet, parameters, budget)?, budget, stage_by_value)
+fn figures_of(s: &State, budget: u32) -> Result<[u64; 3], Refused> {
+    if s.visits > budget as u64 {
+        return Err((8, 0));
+    }
+    Ok([s.sums[0], s.sums[1], s.visits])
 }
 
-/// The stage is part of the loop, and the compiler keeps the state where it is.
+/// Each stage gets the state that the last one returned.
+pub fn figures(sheet: &[u8], parameters: [i16; 4], budget: u32) -> Result<[u64; 3], Refused> {
+    let plan = planned(sheet, parameters, budget)?;
+    let mut s = State::default();
+    while s.at < plan.count && s.visits <= budget as u64 {
+        s = next_state(&plan, s);
+    }
+    figures_of(&s, budget)
+}
+
+/// Each stage changes the one state in its place.
 pub fn figures_in_place(sheet: &[u8], parameters: [i16; 4], budget: u32) -> Result<[u64; 3], Refused> {
-    repeated(&planned(sheet, parameters, budget)?, budget, stage)
+    let plan = planned(sheet, parameters, budget)?;
+    let mut s = State::default();
+    while s.at < plan.count && s.visits <= budget as u64 {
+        stage(&plan, &mut s);
+    }
+    figures_of(&s, budget)
 }
 
 /// Every trip, one after another, of the records up to the end or next arm that closes them.
