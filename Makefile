@@ -47,8 +47,8 @@ dist-program:
 	rt check bound
 	install -D -m 755 -t dist/bin target/bin/bound
 
-# Build the examples in C and Rust against the package alone, and run them, natively and under valgrind.
-dist-test: dist-library
+# Build the examples in C and Rust against the package alone, and run them and the program, natively and under valgrind.
+dist-test: dist
 	packaging/test.sh dist
 
 # The independent reckoning's own tests, and its comparison with what the documents show.

@@ -39,6 +39,13 @@ run() {
     fi
 }
 
+# The program on the worked example.
+bound() {
+    "$@" "$work/moved/bin/bound" <"$work/moved/examples/dispense.input" >printed &&
+        diff printed "$work/moved/examples/dispense.output" &&
+        echo 'as the worked example says'
+}
+
 under_valgrind='valgrind --quiet --error-exitcode=99 --leak-check=full --errors-for-leak-kinds=definite'
 
 build_c
@@ -47,3 +54,5 @@ run 'C' ./c-example
 run 'C under valgrind' $under_valgrind ./c-example
 run 'Rust' ./rust-example
 run 'Rust under valgrind' $under_valgrind ./rust-example
+run 'bound' bound
+run 'bound under valgrind' bound $under_valgrind

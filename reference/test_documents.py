@@ -134,6 +134,7 @@ class WorkedExample(unittest.TestCase):
             data = file.read()
         self.assertEqual(data, made(self.listing, True))
         self.assertEqual(program_text(data).decode(), self.printed)
+        self.assertEqual(document("examples", "dispense.output"), self.printed)
 
 
 class Picture(unittest.TestCase):
