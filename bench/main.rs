@@ -1,37 +1,16 @@
 //! Times the proved call against plain Rust, in one run, after both have agreed on every stored case.
 mod plain;
+#[path = "../examples/pumdalin.rs"]
+mod pumdalin;
 
 use std::hint::black_box;
 use std::time::Instant;
-
-extern "C" {
-    fn pumdalin_figures(
-        sheet: *const u8,
-        sheet_length: usize,
-        p1: i16,
-        p2: i16,
-        p3: i16,
-        p4: i16,
-        budget: u32,
-        answer: *mut u8,
-        answer_length: usize,
-    ) -> u32;
-}
 
 const ROUNDS: usize = 15;
 const NANOSECONDS_A_ROUND: u128 = 30_000_000;
 
 fn proved(sheet: &[u8], p: [i16; 4], budget: u32) -> Result<[u64; 3], u32> {
-    let mut area = [0u8; 24];
-    // SAFETY: the pointers come from live slices of these lengths, which do not overlap.
-    let number = unsafe {
-        pumdalin_figures(sheet.as_ptr(), sheet.len(), p[0], p[1], p[2], p[3], budget, area.as_mut_ptr(), 24)
-    };
-    if number != 0 {
-        return Err(number);
-    }
-    let at = |i: usize| u64::from_le_bytes(area[i..i + 8].try_into().unwrap());
-    Ok([at(0), at(8), at(16)])
+    pumdalin::figures(sheet, p, budget).map(|f| [f.least, f.most, f.visits])
 }
 
 fn plain(sheet: &[u8], p: [i16; 4], budget: u32) -> Result<[u64; 3], u32> {
