@@ -14,7 +14,7 @@ use Rattle.meaning.proofs.Answers.{BudgetInRange, answer-spent, answer-figures}
 use Rattle.nest.specs.Plan.{planOf}
 use Rattle.nest.proofs.Bounds.{SmallParameters}
 use Rattle.stage.specs.declared.State.{State}
-use Rattle.stage.specs.Sums.{leastOf, mostOf, visitsOf}
+use Rattle.parts.specs.Sums.{leastOf, mostOf, visitsOf}
 use Rattle.stage.specs.Next.{blankState, statesAfter}
 use Rattle.stage.specs.Laws.{endState}
 use Rattle.stage.proofs.Laws.{stage-laws}

@@ -8,7 +8,7 @@ use native.Mathlib.Omega.{arith}
 use lib.Dec.{eqb}
 use borrow.Author.Tests.{eq-eqb, ne-eqb}
 use Rattle.stage.specs.declared.State.{State}
-use Rattle.stage.specs.Sums.{visitsOf}
+use Rattle.parts.specs.Sums.{visitsOf}
 use Rattle.stage.specs.Machine.{nextOn}
 use Rattle.stage.specs.Next.{blankState, stageFor, stage, nextState, statesAfter}
 use Rattle.stage.specs.Laws.{endState}

@@ -15,7 +15,7 @@ use Rattle.meaning.specs.Visits as Defined
 use Rattle.meaning.specs.Report.{allClosed}
 use Rattle.meaning.specs.Answer.{Figures, sheetReports}
 use Rattle.meaning.specs.CCall.{figuresIn}
-use Rattle.stage.specs.Sums.{visitsOf}
+use Rattle.parts.specs.Sums.{visitsOf}
 use Rattle.stage.specs.Next.{blankState, statesAfter, visitsBegunBy}
 
 module _ (sheet : List ℕ) (parameters : List ℤ) where

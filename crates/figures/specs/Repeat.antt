@@ -9,7 +9,7 @@ use Rattle.meaning.specs.Record.{Record}
 use Rattle.meaning.specs.Reader.{ok}
 use Rattle.nest.specs.Plan.{planOf}
 use Rattle.stage.specs.declared.State.{State}
-use Rattle.stage.specs.Sums.{visitsOf}
+use Rattle.parts.specs.Sums.{visitsOf}
 use Rattle.stage.specs.Machine.{nextOn}
 use Rattle.stage.specs.Next.{firstState}
 use Rattle.stage.specs.Laws.{StageLaws}

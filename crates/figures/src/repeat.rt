@@ -1,7 +1,7 @@
 // The stage, repeated until the sheet's end or until the visits pass the budget.
 ghost use mathlib.Core.Path.{_≡_};
 ghost use Rattle.meaning.specs.Answer.{checkVisits, figures};
-ghost use Rattle.stage.specs.Sums.{leastOf, mostOf, visitsOf};
+ghost use Rattle.parts.specs.Sums.{leastOf, mostOf, visitsOf};
 ghost use Rattle.figures.specs.Answers.{answerResult};
 ghost use Rattle.figures.specs.Repeat.{Planned, Reached};
 use crate::Answer;

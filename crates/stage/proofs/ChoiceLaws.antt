@@ -7,9 +7,9 @@ use lib.Dec.{eqb}
 use borrow.Author.Tests.{eq-eqb, ne-eqb}
 use Rattle.meaning.specs.Record.{kindNumber}
 use Rattle.stage.specs.declared.State.{State}
-use Rattle.stage.specs.PlanNumbers.{kindAt, openerAt, frameAt}
-use Rattle.stage.specs.Sums.{fromZero}
-use Rattle.stage.specs.Frames.{partOf, opened, frameLeft, sumsAround, armPassed}
+use Rattle.parts.specs.PlanNumbers.{kindAt, openerAt, frameAt}
+use Rattle.parts.specs.Sums.{fromZero}
+use Rattle.parts.specs.Frames.{partOf, opened, frameLeft, sumsAround, armPassed}
 use Rattle.stage.specs.Pass.{stateWith, openChoice, leaveArm, passChoiceWhere, passChoice, isOfLoop}
 
 module _ (rows : List ℕ) (at : ℕ) (sums frames : List ℕ) {kind : ℕ} (named : kind ≡ kindAt rows at) (counters kept : List ℕ) where

@@ -12,11 +12,11 @@ use Rattle.nest.specs.Slopes.{withoutLast, choiceDepth, enter, leave, enclosing
 use Rattle.nest.specs.Plan.{joined, padded, planOfRecords, planOf}
 use Rattle.newton.specs.Weights.{weightsOf, weightedSum}
 use Rattle.stage.specs.declared.State.{State}
-use Rattle.stage.specs.PlanNumbers as Number
-use Rattle.stage.specs.Sums.{wrappedSum, leastOf, mostOf, visitsOf, withSums, added, fromZero, visitBegins}
-use Rattle.stage.specs.Frames.{partOf, withPart, blanked, opened, frameLeft, sumsAround, withPassed, armJoins, armPassed, tripPassed}
+use Rattle.parts.specs.PlanNumbers as Number
+use Rattle.parts.specs.Sums.{wrappedSum, leastOf, mostOf, visitsOf, withSums, added, fromZero, visitBegins}
+use Rattle.parts.specs.Frames.{partOf, withPart, blanked, opened, frameLeft, sumsAround, withPassed, armJoins, armPassed, tripPassed}
 use Rattle.stage.specs.Kept.{keptFrom, tripKept, heldTrips, firstTrips, tripsSum, forgotten}
-use Rattle.stage.specs.Trips.{distance, tripsOver, tripsAt, visitedOf}
+use Rattle.parts.specs.Trips.{distance, tripsOver, tripsAt, visitedOf}
 use Rattle.stage.specs.Pass.{stateWith, worksOn, worksFrom, passWorks, openChoice, leaveArm, passChoiceWhere, passChoice, isOfLoop, enterLoop, nextTrip, leaveLoop, endTripWhere, endTripAt, passLoopWhere, passLoop}
 use Rattle.stage.specs.Machine.{unlessBegun, loopEvaluator, followingAt, passFollowing, bodyEvaluator, stageOn, nextOn}
 use Rattle.stage.specs.Next.{blankState, firstState, stageFor, visitCount, stage, nextState, statesAfter, visitsBegunBy}

@@ -20,7 +20,7 @@ use Rattle.nest.specs.Plan.{planOfRecords}
 use Rattle.nest.proofs.Affine.{enclosingOf}
 use Rattle.nest.proofs.Places.{opensOf, Placed, placed-record}
 use Rattle.stage.specs.declared.State.{State}
-use Rattle.stage.specs.PlanNumbers.{kindAt, openerAt}
+use Rattle.parts.specs.PlanNumbers.{kindAt, openerAt}
 use Rattle.stage.specs.Pass.{Passed, going, passWorks, passChoice, isOfLoop, passLoop}
 use Rattle.stage.specs.Machine.{unlessBegun, Following, nothing, ofLoop, ofChoice, loopEvaluator, followingAt, passFollowing, bodyEvaluator, stageOn}
 use Rattle.stage.specs.Represent.{structOf}

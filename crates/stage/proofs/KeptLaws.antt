@@ -6,7 +6,7 @@ use Prim.Native.Nat.{ℕ, zero, suc, _+_, _*_, _<_, _≤_}
 use native.Mathlib.Omega.{arith}
 use native.Mathlib.Numerals.{add-one}
 use lib.ListN.{getD, set}
-use Rattle.stage.specs.Frames.{blanked}
+use Rattle.parts.specs.Frames.{blanked}
 use Rattle.stage.specs.Kept.{keptFrom, firstTrips}
 
 pub kept-room : (depth held : ℕ) → depth + held < 4 → keptFrom depth + 2 * held ≤ 12

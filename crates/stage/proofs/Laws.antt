@@ -30,7 +30,7 @@ use Rattle.nest.specs.Plan.{Plan, planOf, planOfRecords}
 use Rattle.nest.proofs.Bounds.{SmallParameters}
 use Rattle.nest.proofs.Places.{placed-stages}
 use Rattle.stage.specs.declared.State as Struct
-use Rattle.stage.specs.Sums.{visitsOf}
+use Rattle.parts.specs.Sums.{visitsOf}
 use Rattle.stage.specs.Pass.{Passed}
 use Rattle.stage.specs.Machine.{nextOn}
 use Rattle.stage.specs.Next.{blankState, firstState, stageFor, visitCount, stage, nextState, statesAfter, visitsBegunBy}

@@ -10,14 +10,10 @@ pub mod PassedRecords
 pub mod InStep
 pub mod Laws
 pub mod Examples
-pub mod CellLaws
 pub mod ChoiceLaws
-pub mod FrameLaws
 pub mod KeptLaws
 pub mod LoopLaws
 pub mod MachineLaws
-pub mod SumLaws
-pub mod TripLaws
 pub mod WorkLaws
 pub mod Parameters
 pub mod Planned

@@ -14,13 +14,13 @@ use Rattle.newton.specs.declared.Weights.{Weights}
 use Rattle.newton.specs.Weights.{weightsOf, weightedSum}
 use Rattle.meaning.specs.Record.{kindNumber}
 use Rattle.stage.specs.declared.State.{State}
-use Rattle.stage.specs.PlanNumbers.{kindAt, firstAt, secondAt, afterEndAt, openerAt, frameAt, depthAt, limitAt}
-use Rattle.stage.specs.Sums.{leastOf, mostOf, added, visitBegins}
-use Rattle.stage.specs.Frames.{partOf, opened, frameLeft, sumsAround, tripPassed}
+use Rattle.parts.specs.PlanNumbers.{kindAt, firstAt, secondAt, afterEndAt, openerAt, frameAt, depthAt, limitAt}
+use Rattle.parts.specs.Sums.{leastOf, mostOf, added, visitBegins}
+use Rattle.parts.specs.Frames.{partOf, opened, frameLeft, sumsAround, tripPassed}
 use Rattle.stage.specs.Kept.{keptFrom, tripKept, heldTrips, firstTrips, tripsSum, forgotten}
-use Rattle.stage.specs.Trips.{tripsAt, visitedOf}
+use Rattle.parts.specs.Trips.{tripsAt, visitedOf}
 use Rattle.stage.specs.Pass.{stateWith, Passed, going, begins, enterLoop, nextTrip, leaveLoop, endTripWhere, endTripAt, passLoopWhere, passLoop}
-use Rattle.stage.proofs.TripLaws.{closed-visits}
+use Rattle.parts.proofs.TripLaws.{closed-visits}
 
 pub sum-made :
     (n held from : ℕ) (kept : List ℕ) {start last open-one r : ℕ} {w : Weights} {trips : List ℕ}
@@ -124,12 +124,12 @@ module _ (rows slopes : List ℕ) (at k : ℕ) (sums counters frames kept : List
 
   module _ {depth o n limit step : ℕ} {inside : List ℕ}
       (d : depth ≡ depthAt rows k) (f : o ≡ frameAt rows k) (t : n ≡ tripsAt slopes counters k)
-      (l : limit ≡ limitAt slopes k depth) (p : step ≡ secondAt rows k) (a : inside ≡ added sums step step) where
+      (l : limit ≡ limitAt slopes k (depthAt rows k)) (p : step ≡ secondAt rows k) (a : inside ≡ added sums step step) where
     pub ends-closed : {passed : Passed} → ending depth o n limit inside ≡ passed → endTripAt rows slopes k (depthAt rows k) start ≡ passed
     unfolding endTripAt
     ends-closed e =
         sym
-        (λ i. ending (d i) (f i) (t i) ((l ∙ ap (λ (m : ℕ). limitAt slopes k m) d) i) ((a ∙ ap (λ (m : ℕ). added sums m m) p) i))
+        (λ i. ending (d i) (f i) (t i) (l i) ((a ∙ ap (λ (m : ℕ). added sums m m) p) i))
         ∙ e
 
     pub ends-walked : {passed : Passed} → limit ≡ 0

@@ -51,13 +51,13 @@ module _ (rows slopes : List ℕ) (count : ℕ) where
     unfolding loopEvaluator
     turned = ap (λ (q : Passed). unlessBegun (q .begun) further q) p
 
-    pub turn-begun : b ≡ true → loopEvaluator rows slopes count further s .after ≡ t
+    pub loop-begun : b ≡ true → loopEvaluator rows slopes count further s .after ≡ t
     unfolding unlessBegun
-    turn-begun e = ap (λ (q : Passed). q .after) turned ∙ ap (λ (c : Bool). unlessBegun c further (record { begun = b; after = t }) .after) e
+    loop-begun e = ap (λ (q : Passed). q .after) turned ∙ ap (λ (c : Bool). unlessBegun c further (record { begun = b; after = t }) .after) e
 
-    pub turn-on : {u : State} → b ≡ false → further t .after ≡ u → loopEvaluator rows slopes count further s .after ≡ u
+    pub loop-on : {u : State} → b ≡ false → further t .after ≡ u → loopEvaluator rows slopes count further s .after ≡ u
     unfolding unlessBegun
-    turn-on e q = ap (λ (q : Passed). q .after) turned ∙ ap (λ (c : Bool). unlessBegun c further (record { begun = b; after = t }) .after) e ∙ q
+    loop-on e q = ap (λ (q : Passed). q .after) turned ∙ ap (λ (c : Bool). unlessBegun c further (record { begun = b; after = t }) .after) e ∙ q
 
 -- a stage is the body evaluator with all records left
 pub stage-made : (rows slopes : List ℕ) (count : ℕ) (s : State) {records : ℕ} {t : State}

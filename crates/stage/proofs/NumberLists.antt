@@ -4,7 +4,7 @@ use mathlib.Core.List.{List, [], _∷_, _++_, append-assoc}
 use Prim.Native.Nat.{ℕ, zero, suc, _+_, _≤_, _<_}
 use native.Mathlib.Omega.{arith}
 use lib.ListN.{length, getD, set, take, drop, replicate, length-append, length-replicate, length-take, replicate-append-replicate}
-use Rattle.stage.specs.Frames.{blanked}
+use Rattle.parts.specs.Frames.{blanked}
 use Rattle.stage.specs.Represent.{filled}
 
 module _ {A : Type 0} where

@@ -2,12 +2,12 @@
 -- is around it, and zeros follow.
 use mathlib.Core.Path.{_≡_, refl, sym, ap, ap₂, _∙_}
 use mathlib.Core.List.{List, [], _∷_, _++_, append-assoc}
-use Prim.Native.Nat.{ℕ, zero, suc, _+_, _*_, _-_, _≤_, _<_, min, max}
+use Prim.Native.Nat.{ℕ, zero, suc, _+_, _*_, _-_, _%_, _≤_, _<_, min, max}
 use native.Mathlib.Omega.{arith}
 use lib.ListN.{length, getD, set, drop, length-append, length-replicate, replicate-append-replicate}
 use Rattle.nest.proofs.Lists.{drop-append}
-use Rattle.stage.specs.Sums.{wrappedSum, leastOf, mostOf, withSums}
-use Rattle.stage.specs.Frames.{partOf, withPart, blanked, opened, frameLeft, sumsAround, withPassed, armJoins, armPassed, tripPassed}
+use Rattle.parts.specs.Sums.{wrappedSum, leastOf, mostOf, withSums}
+use Rattle.parts.specs.Frames.{partOf, withPart, blanked, opened, frameLeft, sumsAround, withPassed, armJoins, armPassed, tripPassed}
 use Rattle.stage.specs.Kept.{keptFrom, tripKept, forgotten}
 use Rattle.stage.specs.Represent.{filled}
 use Rattle.stage.proofs.NumberLists.{getD-behind, set-behind, zeros, filled-short, blanked-behind}
@@ -15,15 +15,15 @@ use Rattle.stage.proofs.NumberLists.{getD-behind, set-behind, zeros, fi
 -- ---- frames
 
 module _ (xs : List ℕ) (o : ℕ) (behind : length xs ≡ o * 5) where
-  part-behind : (ys : List ℕ) (j : ℕ) → partOf (xs ++ ys) o j ≡ getD ys j 0
-  unfolding partOf
-  part-behind ys j = getD-behind xs ys (o * 5 + j) j 0 (omega arith)
-
-  with-part-behind : (ys : List ℕ) (j v : ℕ) → withPart (xs ++ ys) o j v ≡ xs ++ set ys j v
-  unfolding withPart
-  with-part-behind ys j v = set-behind xs ys (o * 5 + j) j v (omega arith)
-
   module _ (room : o < 8) where
+    part-behind : (ys : List ℕ) (j : ℕ) → partOf (xs ++ ys) o j ≡ getD ys j 0
+    unfolding partOf
+    part-behind ys j = getD-behind xs ys (o % 8 * 5 + j) j 0 (omega arith)
+
+    with-part-behind : (ys : List ℕ) (j v : ℕ) → withPart (xs ++ ys) o j v ≡ xs ++ set ys j v
+    unfolding withPart
+    with-part-behind ys j v = set-behind xs ys (o % 8 * 5 + j) j v (omega arith)
+
     -- the frames with one more, and with none in its place
     frames-top : (a b c d e : ℕ) → filled 40 (xs ++ (a ∷ b ∷ c ∷ d ∷ e ∷ [])) ≡ xs ++ (a ∷ b ∷ c ∷ d ∷ e ∷ zeros (35 - o * 5))
     frames-top a b c d e =
@@ -89,7 +89,7 @@ module _ (xs : List ℕ) (o : ℕ) (behind : length xs ≡ o * 5) where
       unfolding frameLeft
       frame-blanked e =
           let zs : List ℕ = zeros (35 - o * 5) in
-          ap (λ fs. blanked fs (o * 5) 5) (frames-top a b c d e) ∙ blanked-behind xs (a ∷ b ∷ c ∷ d ∷ e ∷ zs) (o * 5) 5 (sym behind) (omega arith) ∙ sym frames-next
+          ap (λ fs. blanked fs (o % 8 * 5) 5) (frames-top a b c d e) ∙ blanked-behind xs (a ∷ b ∷ c ∷ d ∷ e ∷ zs) (o % 8 * 5) 5 (omega arith) (omega arith) ∙ sym frames-next
 
       -- and its sums go to what is around it
       pub sums-around : (e least most : ℕ) (sums : List ℕ) → sumsAround (filled 40 (xs ++ (a ∷ b ∷ c ∷ d ∷ e ∷ []))) o least most sums ≡ withSums sums (wrappedSum a least) (wrappedSum b most)

@@ -28,9 +28,9 @@ use Rattle.nest.proofs.Affine.{enclosingOf}
 use Rattle.nest.proofs.Positions.{in-place-through, loop-body}
 use Rattle.nest.proofs.Places.{opensOf}
 use Rattle.stage.specs.declared.State.{State}
-use Rattle.stage.specs.PlanNumbers.{kindAt, afterEndAt, limitAt}
+use Rattle.parts.specs.PlanNumbers.{kindAt, afterEndAt, limitAt}
 use Rattle.stage.specs.Kept.{keptFrom, firstTrips, tripsSum}
-use Rattle.stage.specs.Trips.{tripsAt, visitedOf}
+use Rattle.parts.specs.Trips.{tripsAt, visitedOf}
 use Rattle.stage.specs.Pass.{going, begins, passWorks, passChoice, passLoop}
 use Rattle.stage.specs.Represent.{filled, boundsNumbers, counterNumbers, keptNumbers, structOf}
 use Rattle.stage.proofs.NumberLists.{zeros}

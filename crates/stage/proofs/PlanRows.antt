@@ -38,8 +38,8 @@ use Rattle.nest.proofs.Records.{row-at, rows-length, slopes-length, definedSlop
 use Rattle.nest.proofs.Plans.{plan-row, plan-slope}
 use Rattle.nest.proofs.PlanReports.{plan-reports}
 use Rattle.nest.proofs.Places.{opensOf, Stands}
-use Rattle.stage.specs.PlanNumbers.{numberOf, kindAt, firstAt, secondAt, afterEndAt, openerAt, frameAt, depthAt, strideAt, limitAt, baseAt, pushAt}
-use Rattle.stage.specs.Trips.{distance, tripsOver, tripsAt, visitedOf}
+use Rattle.parts.specs.PlanNumbers.{numberOf, kindAt, firstAt, secondAt, afterEndAt, openerAt, frameAt, depthAt, strideAt, limitAt, baseAt, pushAt}
+use Rattle.parts.specs.Trips.{distance, tripsOver, tripsAt, visitedOf}
 use Rattle.stage.specs.Represent.{filled, counterNumbers}
 use Rattle.stage.proofs.NumberLists.{filled-at}
 

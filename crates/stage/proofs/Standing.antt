@@ -26,7 +26,7 @@ use Rattle.nest.proofs.Walks.{recordsInside-body}
 use Rattle.nest.proofs.Positions.{opensThrough, in-place-through, loop-in-place, loop-body}
 use Rattle.nest.proofs.Places.{opensOf, Stands, Framed, PlacedAt, Placed}
 use Rattle.stage.specs.declared.State.{State}
-use Rattle.stage.specs.PlanNumbers.{frameAt, depthAt, openerAt, afterEndAt}
+use Rattle.parts.specs.PlanNumbers.{frameAt, depthAt, openerAt, afterEndAt}
 use Rattle.stage.specs.Kept.{keptFrom}
 use Rattle.stage.specs.Pass.{Passed, going, begins}
 use Rattle.stage.specs.Represent.{filled, counterNumbers, keptNumbers, structOf}

@@ -17,11 +17,11 @@ use Rattle.meaning.specs.Closed.{closed}
 use Rattle.meaning.specs.ClosedSum.{addAll, addTrip}
 use Rattle.meaning.specs.Stage.{Frame, loopFrame, choiceFrame, addArm, rangesOf}
 use Rattle.stage.specs.declared.State.{State}
-use Rattle.stage.specs.PlanNumbers.{kindAt, firstAt, secondAt, afterEndAt, openerAt, frameAt, depthAt, limitAt}
-use Rattle.stage.specs.Sums.{wrappedSum, leastOf, mostOf, visitsOf, withSums, added, fromZero, visitBegins}
-use Rattle.stage.specs.Frames.{partOf, opened, frameLeft, sumsAround, armPassed, tripPassed}
+use Rattle.parts.specs.PlanNumbers.{kindAt, firstAt, secondAt, afterEndAt, openerAt, frameAt, depthAt, limitAt}
+use Rattle.parts.specs.Sums.{wrappedSum, leastOf, mostOf, visitsOf, withSums, added, fromZero, visitBegins}
+use Rattle.parts.specs.Frames.{partOf, opened, frameLeft, sumsAround, armPassed, tripPassed}
 use Rattle.stage.specs.Kept.{keptFrom, tripKept, heldTrips, firstTrips, tripsSum, forgotten}
-use Rattle.stage.specs.Trips.{tripsAt, visitedOf}
+use Rattle.parts.specs.Trips.{tripsAt, visitedOf}
 use Rattle.stage.specs.Pass.{stateWith, going, begins, Works, worksOn, worksFrom, passWorks, openChoice, leaveArm, passChoiceWhere, passChoice, enterLoop, nextTrip, leaveLoop, endTripWhere, endTripAt, passLoopWhere, passLoop}
 use Rattle.stage.specs.Represent.{filled, boundsNumbers, counterNumbers, armNumbers, walkedNumbers, closedNumbers, frameNumbers, keptNumbers}
 use Rattle.stage.proofs.Parts.{frame-opened, trip-joined, arm-joined, first-arm-joined, frame-blanked, sums-around, sums-around-passed, counter-blank, counter-at, counter-set, kept-blank, trip-kept, kept-forgotten}

@@ -7,8 +7,8 @@ use native.Mathlib.Omega.{arith}
 use lib.Dec.{eqb}
 use borrow.Author.Tests.{eq-eqb, ne-eqb}
 use Rattle.meaning.specs.Record.{kindNumber}
-use Rattle.stage.specs.PlanNumbers.{kindAt, firstAt, secondAt}
-use Rattle.stage.specs.Sums.{wrappedSum, leastOf, mostOf, withSums}
+use Rattle.parts.specs.PlanNumbers.{kindAt, firstAt, secondAt}
+use Rattle.parts.specs.Sums.{wrappedSum, leastOf, mostOf, withSums}
 use Rattle.stage.specs.Pass.{stateWith, Works, works, worksOn, worksFrom, passWorks}
 
 module _ (rows : List ℕ) (at least most : ℕ) where

@@ -4,8 +4,8 @@ use Prim.Native.Nat.{ℕ, zero, suc, _+_, _*_, _-_, _^_, min}
 use lib.ListN.{getD, set}
 use Rattle.whole.specs.Integer.{floorRemainder}
 use Rattle.newton.specs.Weights.{weightsOf, weightedSum}
-use Rattle.stage.specs.Sums.{leastOf, mostOf}
-use Rattle.stage.specs.Frames.{blanked}
+use Rattle.parts.specs.Sums.{leastOf, mostOf}
+use Rattle.parts.specs.Frames.{blanked}
 
 -- where the trips of a loop with so many loops around it begin: 0, 6, 10, 12
 unfoldable pub keptFrom : ℕ → ℕ

@@ -13,7 +13,7 @@ use Rattle.meaning.specs.Time.{time}
 use Rattle.meaning.specs.Visits as Defined
 use Rattle.meaning.specs.Stage as Meaning
 use Rattle.stage.specs.declared.State.{State}
-use Rattle.stage.specs.Sums.{visitsOf}
+use Rattle.parts.specs.Sums.{visitsOf}
 use Rattle.stage.specs.Next.{blankState, stage, statesAfter, visitsBegunBy}
 use Rattle.stage.specs.Represent.{structOf}
 

@@ -1,8 +1,4 @@
-pub mod PlanNumbers
-pub mod Sums
-pub mod Frames
 pub mod Kept
-pub mod Trips
 pub mod Pass
 pub mod Machine
 pub mod Next

@@ -6,11 +6,11 @@ use lib.Dec.{ltb, eqb}
 use lib.ListN.{getD, set}
 use Rattle.meaning.specs.Record.{kindNumber, workKind, loopKind, endKind, choiceKind}
 use Rattle.stage.specs.declared.State.{State}
-use Rattle.stage.specs.PlanNumbers.{kindAt, firstAt, secondAt, afterEndAt, openerAt, frameAt, depthAt, limitAt}
-use Rattle.stage.specs.Sums.{wrappedSum, leastOf, mostOf, withSums, added, fromZero, visitBegins}
-use Rattle.stage.specs.Frames.{partOf, opened, frameLeft, sumsAround, armPassed, tripPassed}
+use Rattle.parts.specs.PlanNumbers.{kindAt, firstAt, secondAt, afterEndAt, openerAt, frameAt, depthAt, limitAt}
+use Rattle.parts.specs.Sums.{wrappedSum, leastOf, mostOf, withSums, added, fromZero, visitBegins}
+use Rattle.parts.specs.Frames.{partOf, opened, frameLeft, sumsAround, armPassed, tripPassed}
 use Rattle.stage.specs.Kept.{keptFrom, tripKept, heldTrips, firstTrips, tripsSum, forgotten}
-use Rattle.stage.specs.Trips.{tripsAt, visitedOf}
+use Rattle.parts.specs.Trips.{tripsAt, visitedOf}
 
 abbrev pub stateWith : ℕ → List ℕ → List ℕ → List ℕ → List ℕ → State
 stateWith at sums counters frames kept = record { at = at; sums = sums; counters = counters; frames = frames; kept = kept }

@@ -9,7 +9,7 @@ use crate::pass::pass_choice;
 use crate::pass::pass_works;
 
 // The body evaluator: what follows one another, with at most `left` records that are no works; answers where the stage then stands.
-pub fn body(
+pub fn evaluate_body(
     rows: &[u64; 512],
     slopes: &[u64; 512],
     count: usize,
@@ -34,14 +34,14 @@ pub fn body(
     }
     let rest = left - 1;
     if of_loop(rows, at) {
-        return turn(rows, slopes, count, rest, at, sums, counters, frames, kept);
+        return evaluate_loop(rows, slopes, count, rest, at, sums, counters, frames, kept);
     }
     let at = pass_choice(rows, at, sums, frames);
-    body(rows, slopes, count, rest, at, sums, counters, frames, kept)
+    evaluate_body(rows, slopes, count, rest, at, sums, counters, frames, kept)
 }
 
 // The loop evaluator: a loop's record, or its end, and what follows unless a visit begins.
-fn turn(
+fn evaluate_loop(
     rows: &[u64; 512],
     slopes: &[u64; 512],
     count: usize,
@@ -61,7 +61,7 @@ fn turn(
     if passed.begun {
         return passed.at;
     }
-    body(
+    evaluate_body(
         rows,
         slopes,
         count,

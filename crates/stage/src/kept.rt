@@ -2,10 +2,10 @@
 ghost use mathlib.Core.Path.{_≡_};
 ghost use Prim.Native.Nat.{_+_, _*_, _<_, _≤_};
 ghost use lib.ListN.{getD};
-ghost use Rattle.stage.specs.Frames.{blanked};
-ghost use Rattle.stage.specs.Kept.{keptFrom, tripKept, firstTrips};
-use crate::sums::least_of;
-use crate::sums::most_of;
+ghost use Rattle.parts.specs.Frames.{blanked};
+ghost use Rattle.stage.specs.Kept.{keptFrom, tripKept, heldTrips, firstTrips};
+use parts::sums::least_of;
+use parts::sums::most_of;
 
 // Where the trips of a loop with so many loops around it begin: 0, 6, 10, 12.
 pub fn kept_from(depth: usize) -> usize
@@ -64,4 +64,12 @@ pub fn blank(kept: &mut [u64; 12], from: usize, count: usize)
         kept[from + done] = 0;
         done += 1;
     }
+}
+
+// How many trips of a closed loop are held before the open one.
+pub fn held_trips(limit: u64, counter: u64) -> u64
+    requires { ⌜ 1 ≤ limit ⌝ }
+    ensures { λ r. ⌜ r ≡ heldTrips limit counter ⌝ }
+{
+    if counter < limit { counter } else { limit - 1 }
 }

@@ -1,19 +1,15 @@
 // Stages: from the start of one visit to the start of the next, or to the sheet's end.
-mod cells;
 mod evaluate;
-mod frames;
 mod kept;
 mod loops;
 mod pass;
 pub mod stage;
-mod sums;
-mod trips;
 
 ghost use mathlib.Core.Path.{_≡_};
 ghost use Prim.Native.Nat.{min};
 ghost use Rattle.stage.specs.Machine.{nextOn};
 ghost use Rattle.stage.specs.Next.{firstState};
-use crate::evaluate::body;
+use crate::evaluate::evaluate_body;
 
 // Where it stands (the number of a record); the least and the most of what was passed in the innermost open trip or arm, or else in
 // the sheet, and the visits; the counters of the open loops, outermost first; five numbers for each open record, outermost first: the
@@ -57,7 +53,7 @@ pub fn stage_on(rows: &[u64; 512], slopes: &[u64; 512], count: usize, s: State) 
     let mut counters = s.counters;
     let mut frames = s.frames;
     let mut kept = s.kept;
-    let at = body(
+    let at = evaluate_body(
         rows,
         slopes,
         records,

@@ -1,7 +1,7 @@
 -- Either test of the budget is the one of the definition.
 use mathlib.Core.Path.{sym}
 use native.Mathlib.Omega.{arith}
-use Rattle.stage.specs.Sums.{leastOf, mostOf, visitsOf}
+use Rattle.parts.specs.Sums.{leastOf, mostOf, visitsOf}
 use Rattle.figures.proofs.Planning.{check-within, check-spent, figuresAt}
 use borrow.Author.Needs.{needs}
 use Rattle.figures.proofs.repeat.figures_of.Statement.{statement}

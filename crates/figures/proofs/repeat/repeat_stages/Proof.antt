@@ -5,7 +5,7 @@ use Prim.Native.Nat.{ℕ, suc, _≤_, _<_}
 use borrow.Author.Needs.{needs}
 use borrow.Author.Tests.{leb-true, leb-false}
 use Rattle.stage.specs.declared.State.{State}
-use Rattle.stage.specs.Sums.{visitsOf}
+use Rattle.parts.specs.Sums.{visitsOf}
 use Rattle.stage.specs.Machine.{nextOn}
 use Rattle.figures.specs.Repeat.{statesOn}
 use Rattle.figures.proofs.Repeats.{stagesLeft, fewer-left}

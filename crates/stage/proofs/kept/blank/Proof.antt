@@ -5,7 +5,7 @@ use native.Mathlib.Omega.{arith}
 use lib.ListN.{set}
 use denote.Ref.{now}
 use borrow.Author.Needs.{needs}
-use Rattle.stage.specs.Frames.{blanked}
+use Rattle.parts.specs.Frames.{blanked}
 use Rattle.stage.proofs.KeptLaws.{blank-none, blank-more}
 use Rattle.stage.proofs.kept.blank.Statement.{statement}
 use Rattle.stage.proofs.kept.blank.Tie as tie

@@ -1,8 +1,9 @@
 use native.Mathlib.Omega.{arith}
 use denote.Ref.{now}
 use borrow.Author.Needs.{needs}
-use Rattle.stage.proofs.CellLaws.{frame-small, depth-small, limit-small}
-use Rattle.stage.proofs.TripLaws.{trips-few}
+use Rattle.parts.specs.PlanNumbers.{depthAt}
+use Rattle.parts.proofs.CellLaws.{frame-small, depth-small, limit-small}
+use Rattle.parts.proofs.TripLaws.{trips-few}
 use Rattle.stage.proofs.LoopLaws.{ends-walked, ends-closed}
 use Rattle.stage.proofs.loops.end_trip.Statement.{statement}
 use Rattle.stage.proofs.loops.end_trip.Tie as tie
@@ -17,7 +18,7 @@ trips-at-requires : tie.Need-trips-at-requires
 trips-at-requires c κs = search needs
 
 limit-at-requires : tie.Need-limit-at-requires
-limit-at-requires c κs = let a = c .before .before .before .before .args in let p = depth-small (now (a .rows)) (a .k) in omega arith
+limit-at-requires c κs = search needs
 
 second-at-requires : tie.Need-second-at-requires
 second-at-requires c κs = search needs
@@ -44,8 +45,7 @@ end-closed-requires c κs =
     let a = c .before .before .before .before .before .before .before .before .before .before .before .before .before .args in
     let p = depth-small (now (a .rows)) (a .k) in let q = frame-small (now (a .rows)) (a .k) in
     let t = trips-few (now (a .slopes)) (now (a .counters)) (a .k) in
-    let d = c .before .before .before .before .before .before .before .before .before .before .before .before .depth-at .result in
-    let l = limit-small (now (a .slopes)) (a .k) d (omega arith) in
+    let l = limit-small (now (a .slopes)) (a .k) (depthAt (now (a .rows)) (a .k)) p in
     omega arith
 
 returns-2 : tie.Need-returns-2

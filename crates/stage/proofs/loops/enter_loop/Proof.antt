@@ -1,7 +1,7 @@
 use native.Mathlib.Omega.{arith}
 use denote.Ref.{now}
 use borrow.Author.Needs.{needs}
-use Rattle.stage.proofs.CellLaws.{frame-small}
+use Rattle.parts.proofs.CellLaws.{frame-small}
 use Rattle.stage.proofs.LoopLaws.{enters-none, enters-some}
 use Rattle.stage.proofs.loops.enter_loop.Statement.{statement}
 use Rattle.stage.proofs.loops.enter_loop.Tie as tie

@@ -4,7 +4,7 @@ use native.Mathlib.Omega.{arith}
 use denote.Ref.{now}
 use borrow.Author.Needs.{needs}
 use Rattle.stage.specs.Kept.{forgotten, keptFrom}
-use Rattle.stage.specs.Frames.{blanked, sumsAround}
+use Rattle.parts.specs.Frames.{blanked, sumsAround}
 use Rattle.stage.proofs.KeptLaws.{kept-room}
 use Rattle.stage.proofs.LoopLaws.{sum-made}
 use Rattle.stage.proofs.loops.leave_closed.Statement.{statement}

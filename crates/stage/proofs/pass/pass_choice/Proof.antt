@@ -2,7 +2,7 @@ use native.Mathlib.Omega.{arith}
 use denote.Ref.{now}
 use borrow.Author.Needs.{needs}
 use Rattle.stage.proofs.ChoiceLaws.{choice-opens, arm-opens, choice-ends}
-use Rattle.stage.proofs.CellLaws.{frame-small}
+use Rattle.parts.proofs.CellLaws.{frame-small}
 use Rattle.stage.proofs.pass.pass_choice.Statement.{statement}
 use Rattle.stage.proofs.pass.pass_choice.Tie as tie
 

@@ -4,7 +4,7 @@ use Prim.Native.Nat.{_-_}
 use borrow.Author.Needs.{needs}
 use denote.Ref.{now}
 use Rattle.stage.specs.Pass.{worksFrom}
-use Rattle.stage.specs.Sums.{leastOf, mostOf}
+use Rattle.parts.specs.Sums.{leastOf, mostOf}
 use Rattle.stage.proofs.WorkLaws.{works-end, works-stop, works-more, works-passed}
 use Rattle.stage.proofs.pass.pass_works.Statement.{statement}
 use Rattle.stage.proofs.pass.pass_works.Tie as tie

@@ -1,0 +1,4 @@
+pub mod CellLaws
+pub mod FrameLaws
+pub mod SumLaws
+pub mod TripLaws

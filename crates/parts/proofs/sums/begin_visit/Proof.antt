@@ -1,0 +1,30 @@
+use borrow.Author.Needs.{needs}
+use Rattle.parts.specs.Sums.{visitBegins, visitsOf, wrappedSum}
+use Rattle.parts.proofs.sums.begin_visit.Statement.{statement}
+use Rattle.parts.proofs.sums.begin_visit.Tie as tie
+
+element-copy-out-visits : tie.Need-element-copy-out-visits
+element-copy-out-visits c = search needs
+
+reset-requires : tie.Need-reset-requires
+reset-requires c κs = search needs
+
+wrapping-add-u64-requires : tie.Need-wrapping-add-u64-requires
+wrapping-add-u64-requires c κs = search needs
+
+element-write-sums : tie.Need-element-write-sums
+element-write-sums c = search needs
+
+returns : tie.Need-returns
+unfolding visitBegins visitsOf wrappedSum
+returns c = cc
+
+pub begin-visit-spec : {M : Type 1} → statement M
+begin-visit-spec =
+    tie.close
+    (tie.spec
+    element-copy-out-visits
+    reset-requires
+    wrapping-add-u64-requires
+    element-write-sums
+    returns)

@@ -1,0 +1,4 @@
+pub mod PlanNumbers
+pub mod Sums
+pub mod Frames
+pub mod Trips
