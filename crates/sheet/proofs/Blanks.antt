@@ -18,8 +18,9 @@ use Rattle.meaning.specs.Writer.{workFieldsZero, formZero, loopFieldsZero, fore
 use Rattle.meaning.proofs.Logic.{T-and, and-T}
 use Rattle.meaning.proofs.Number.{encode-bound}
 use Rattle.meaning.proofs.RecordBytes.{kindNumber-kindOf}
+use Rattle.form.specs.Packed.{formOf}
 use Rattle.sheet.specs.declared.record.Record.{Record}
-use Rattle.sheet.specs.View.{formOf, loopOf, rawRecordOf}
+use Rattle.sheet.specs.View.{loopOf, rawRecordOf}
 use Rattle.sheet.specs.Fits.{FormFits, RecordFits}
 use Rattle.sheet.specs.Writing.{allBlank}
 

@@ -17,9 +17,10 @@ use Rattle.meaning.specs.Writer.{workFieldsZero, formZero, loopFieldsZero, fore
 use Rattle.meaning.proofs.Logic.{T-and}
 use Rattle.meaning.proofs.Number.{unsigned-littleEndian}
 use Rattle.meaning.proofs.RecordBytes.{kindNumber-kindOf, formAt-drop, formAt-formBytes}
-use Rattle.sheet.specs.declared.record.PackedForm.{PackedForm}
+use Rattle.form.specs.declared.packed.PackedForm.{PackedForm}
+use Rattle.form.specs.Packed.{formOf, blankForm}
 use Rattle.sheet.specs.declared.record.Record.{Record}
-use Rattle.sheet.specs.View.{formOf, blankForm, blankRecord, loopOf, rawRecordOf, recordIn}
+use Rattle.sheet.specs.View.{blankRecord, loopOf, rawRecordOf, recordIn}
 use Rattle.sheet.specs.Fits.{FormFits, RecordFits}
 use Rattle.sheet.proofs.Bodies.{fits-in-range, nine, loop-long}
 

@@ -1,6 +1,4 @@
-pub mod Signed
 pub mod Patterns
-pub mod Fields
 pub mod ByKind
 pub mod Heads
 pub mod Ranges
@@ -14,7 +12,3 @@ pub mod Given
 pub mod LaidRecord
 pub mod Laying
 pub mod Writes
-pub mod Reckoned
-pub mod FormLists
-pub mod FormLaws
-pub mod FormSizes

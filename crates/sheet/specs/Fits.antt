@@ -5,8 +5,8 @@ use lib.Dec.{T}
 use lib.ListN.{length}
 use Rattle.meaning.specs.Number.{hasPattern}
 use Rattle.meaning.specs.Form.{Form, factorsFit}
+use Rattle.form.specs.Packed.{formOf}
 use Rattle.sheet.specs.declared.record.Record.{Record}
-use Rattle.sheet.specs.View.{formOf}
 
 -- a form whose numbers have their patterns
 pub record FormFits (f : Form) : Type 0 where

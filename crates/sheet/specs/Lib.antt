@@ -1,5 +1,4 @@
 pub mod View
-pub mod Forms
 pub mod Fits
 pub mod Nestings
 pub mod Answers

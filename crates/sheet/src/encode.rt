@@ -8,11 +8,12 @@ ghost use Rattle.meaning.specs.Number.{encodeSigned};
 ghost use Rattle.meaning.specs.Form.{formBytes};
 ghost use Rattle.meaning.specs.Record.{Kind, kindOf, bodyLength, loopRecord, bodyBytes};
 ghost use Rattle.meaning.specs.Writer.{recordOf};
-ghost use Rattle.sheet.specs.View.{formOf, loopOf, rawRecordOf};
+ghost use Rattle.form.specs.Packed.{formOf};
+ghost use Rattle.sheet.specs.View.{loopOf, rawRecordOf};
 ghost use Rattle.sheet.specs.Fits.{FormFits, RecordFits};
-use crate::record::PackedForm;
 use crate::record::Record;
 use crate::record::WORK;
+use form::packed::PackedForm;
 
 fn low_byte(number: u16) -> u8
     ensures { λ r. ⌜ r ≡ number % 256 ⌝ }

@@ -11,8 +11,6 @@ ghost use Rattle.meaning.specs.Reader.{accept};
 ghost use Rattle.sheet.specs.Nestings.{loopDigit, nestingOf, fieldsPass, mayStand, openAfterKind};
 ghost use Rattle.sheet.specs.Answers.{stepResult, stepOf};
 use crate::loops::Loop;
-use crate::number::byte_at;
-use crate::number::unsigned16_at;
 use crate::record::CHOICE;
 use crate::record::END;
 use crate::record::LOOP;
@@ -21,6 +19,8 @@ use crate::record::MAX_OPEN;
 use crate::record::NEXT_ARM;
 use crate::record::WORK;
 use crate::refusal::Refusal;
+use form::number::byte_at;
+use form::number::unsigned16_at;
 
 // How many records are open, how many of these are loops, and which: bit 0 of `loops` is 1 where the innermost is a loop, and so on outward.
 pub struct Nesting {

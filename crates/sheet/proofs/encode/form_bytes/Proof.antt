@@ -4,7 +4,7 @@ use lib.IntN.{pos}
 use lib.Signed.{mag}
 use lib.ListN.{length, getD}
 use mir.Syntax.{w8, w16}
-use Rattle.sheet.specs.View.{formOf}
+use Rattle.form.specs.Packed.{formOf}
 use Rattle.sheet.proofs.Patterns.{handed}
 use Rattle.sheet.proofs.Bodies.{form-fits, form-bytes}
 use borrow.Author.Needs.{needs}
