@@ -1,4 +1,3 @@
-pub mod Patterns
 pub mod ByKind
 pub mod Heads
 pub mod Ranges
@@ -6,9 +5,4 @@ pub mod Openings
 pub mod OneRecord
 pub mod Reading
 pub mod Decoding
-pub mod Bodies
-pub mod Blanks
-pub mod Given
-pub mod LaidRecord
-pub mod Laying
-pub mod Writes
+pub mod WrittenBack

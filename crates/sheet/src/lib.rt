@@ -1,9 +1,7 @@
-// Sheets: records, the record reader, the reader and the writer.
-mod encode;
+// Sheets: records, the record reader and the reader.
 pub mod head;
 pub mod loops;
 pub mod nesting;
 pub mod reader;
 pub mod record;
 pub mod refusal;
-pub mod writer;
