@@ -1,8 +1,7 @@
-// Forms as a sheet has them.
+// A form at the widths that it has in a sheet.
 ghost use mathlib.Core.Path.{_≡_};
 ghost use Rattle.form.specs.Packed.{blankForm};
 
-// A form at the widths that it has in a sheet.
 pub struct PackedForm {
     pub constant: i16,
     pub index: [i8; 3],
