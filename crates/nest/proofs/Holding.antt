@@ -18,9 +18,9 @@ use Rattle.meaning.specs.Time.{difference, tripCount}
 use Rattle.meaning.specs.Range.{Range, range, indexRange, innerRanges, differenceRange, ceiling}
 use Rattle.meaning.specs.Closed.{push, pushOwn, pushInner}
 use Rattle.meaning.proofs.Accepted.{LoopInRange}
-use Rattle.sheet.specs.Forms.{folded, rangesBetween, rangeWithin, valueAt, pushOf}
-use Rattle.sheet.proofs.FormLaws.{NumbersWithin, RangesWithin, Plain, range-folded, value-folded, push-folded, ranges-set}
-use Rattle.sheet.proofs.FormSizes.{Numbers, plain, plain-difference}
+use Rattle.form.specs.Forms.{folded, rangesBetween, rangeWithin, valueAt, pushOf}
+use Rattle.form.proofs.FormLaws.{NumbersWithin, RangesWithin, Plain, range-folded, value-folded, push-folded, ranges-set}
+use Rattle.form.proofs.FormSizes.{Numbers, plain, plain-difference}
 use Rattle.nest.specs.declared.facts.Around.{Around}
 use Rattle.nest.specs.Slopes.{Enclosing, nothingOpen, withoutLast, leave, enter, loopFacts, choiceDepth, wordOf}
 use Rattle.nest.specs.Facts.{barFrom, pushWord, loopCells, aroundWith, ownRow, rowWith, pushesWith, pushNumber, factNumbers}

@@ -15,10 +15,10 @@ use Rattle.meaning.specs.Record.{kindNumber, bodyLength, decodeRecord, Record, 
 use Rattle.meaning.specs.Reader.{bodyAt}
 use Rattle.meaning.proofs.Accepted.{InPlace}
 use Rattle.meaning.proofs.RecordBytes.{kindOf-kindNumber}
+use Rattle.form.proofs.Fields.{unsigned16-past}
 use Rattle.sheet.specs.declared.nesting.Nesting.{Nesting}
 use Rattle.sheet.specs.Nestings.{nestingOf, openAfterAs, openAfterKind}
 use Rattle.sheet.specs.View.{lengthOfKind}
-use Rattle.sheet.proofs.Fields.{unsigned16-past}
 use Rattle.nest.specs.Sheets.{recordsOf}
 use Rattle.nest.specs.Rows.{opensAfter, numbersAfter, innermost, recordsInside, firstNumber, secondNumber, endNumber, Row, rowAt, rowsOf, rowNumbers}
 use Rattle.nest.specs.Plan.{joined, padded}

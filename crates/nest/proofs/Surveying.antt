@@ -20,14 +20,15 @@ use Rattle.meaning.specs.Range.{Range}
 use Rattle.meaning.specs.Time.{difference}
 use Rattle.meaning.proofs.Accepted.{InPlace, LoopInRange, loop-in-range}
 use Rattle.meaning.proofs.RecordReader.{StandsAt}
+use Rattle.form.specs.declared.Form as W
+use Rattle.form.specs.Packed.{formOf}
+use Rattle.form.specs.Forms.{wideForm, folded}
+use Rattle.form.proofs.FormLaws.{NumbersWithin, RangesWithin}
+use Rattle.form.proofs.FormSizes.{Numbers}
 use Rattle.sheet.specs.declared.nesting.Nesting.{Nesting}
 use Rattle.sheet.specs.declared.record.Record as D
-use Rattle.sheet.specs.declared.form.Form as W
 use Rattle.sheet.specs.Nestings.{nestingOf}
-use Rattle.sheet.specs.View.{formOf, recordIn, decodedAs, decoded}
-use Rattle.sheet.specs.Forms.{wideForm, folded}
-use Rattle.sheet.proofs.FormLaws.{NumbersWithin, RangesWithin}
-use Rattle.sheet.proofs.FormSizes.{Numbers}
+use Rattle.sheet.specs.View.{recordIn, decodedAs, decoded}
 use Rattle.nest.specs.declared.facts.Around.{Around}
 use Rattle.nest.specs.declared.facts.Forms.{Forms}
 use Rattle.nest.specs.Sheets.{recordsOf}

@@ -15,7 +15,7 @@ use Rattle.whole.specs.Integer.{floorRemainder, larger}
 use Rattle.whole.proofs.Order.{subℕ-negsuc}
 use Rattle.whole.proofs.Floor.{count-pos, count-negsuc}
 use Rattle.meaning.specs.Time.{tripCount}
-use Rattle.sheet.proofs.Reckoned.{held}
+use Rattle.form.proofs.Reckoned.{held}
 use Rattle.nest.specs.Slopes.{wordOf}
 use Rattle.nest.specs.Facts.{barFrom}
 

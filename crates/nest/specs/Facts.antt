@@ -11,7 +11,7 @@ use lib.ListN.{length, getD, set, replicate}
 use Rattle.whole.specs.Integer.{larger}
 use Rattle.meaning.specs.Form.{Form}
 use Rattle.meaning.specs.Time.{tripCount}
-use Rattle.sheet.specs.Forms.{rangeWithin, valueAt, pushOf}
+use Rattle.form.specs.Forms.{rangeWithin, valueAt, pushOf}
 use Rattle.nest.specs.declared.facts.Around.{Around}
 use Rattle.nest.specs.Slopes.{LoopFacts, wordOf}
 

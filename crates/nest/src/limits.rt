@@ -4,7 +4,7 @@ ghost use mathlib.Core.List.{List};
 ghost use mathlib.Core.Option.{Option};
 ghost use Prim.Native.Nat.{ℕ, _+_, _*_, _^_, _-_, _<_, _≤_, max};
 ghost use lib.IntN.{ℤ, natAbs};
-ghost use lib.ListN.{length, getD, take, drop};
+ghost use lib.ListN.{getD, take, drop};
 ghost use Rattle.nest.specs.Slopes as S;
 ghost use Rattle.nest.specs.Slopes.{LoopFacts, wordOf, someUneven, limitAmong, slopesOf, slopeNumbers};
 ghost use Rattle.nest.specs.Sheets.{recordsOf};

@@ -1,8 +1,8 @@
 // The rows of a plan: what the reader says of each record.
 ghost use mathlib.Core.Path.{_≡_};
-ghost use mathlib.Core.List.{List, _∷_};
+ghost use mathlib.Core.List.{List};
 ghost use mathlib.Core.Bool.{_&&_};
-ghost use Prim.Native.Nat.{ℕ, _+_, _*_, _<_, _≤_};
+ghost use Prim.Native.Nat.{ℕ, _+_, _<_};
 ghost use lib.Dec.{eqb};
 ghost use lib.ListN.{length, getD, take, drop, replicate};
 ghost use Rattle.meaning.specs.Record as M;
@@ -14,10 +14,10 @@ ghost use Rattle.nest.specs.Plan.{joined, padded};
 ghost use Rattle.nest.specs.Steps.{insideAfter, InnersKnown};
 use crate::cells::cell;
 use crate::cells::put_cells;
+use form::number::byte_at;
+use form::number::unsigned16_at;
 use sheet::head::body_at;
 use sheet::nesting::Nesting;
-use sheet::number::byte_at;
-use sheet::number::unsigned16_at;
 use sheet::record::CHOICE;
 use sheet::record::END;
 use sheet::record::LOOP;

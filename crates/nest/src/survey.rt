@@ -19,9 +19,9 @@ use crate::facts::choice_depth;
 use crate::facts::forms_at;
 use crate::facts::loop_cells;
 use crate::facts::pushes_with;
+use form::number::byte_at;
 use sheet::loops::Loop;
 use sheet::nesting::Nesting;
-use sheet::number::byte_at;
 use sheet::record::LOOP;
 
 // The facts of the loops; the number of the first loop whose ceiling is above the limit, or `count`.

@@ -1,6 +1,6 @@
 // A loop's trips, from the counters of the loops around it, and how many of them are visited.
 ghost use mathlib.Core.Path.{_≡_};
-ghost use Prim.Native.Nat.{suc, _/_, _<_, _≤_, max};
+ghost use Prim.Native.Nat.{suc, _/_, _<_, max};
 ghost use lib.Dec.{ltb};
 ghost use Rattle.parts.specs.Trips as Trips;
 use crate::cells::base_at;

@@ -10,9 +10,10 @@ use lib.Dec.{eqb}
 use Rattle.meaning.specs.Form.{formAt}
 use Rattle.meaning.specs.Number.{unsigned16}
 use Rattle.meaning.specs.Record.{Kind, workKind, loopKind, endKind, choiceKind, nextArmKind, kindOf, bodyLength, decodeRecord}
-use Rattle.sheet.specs.declared.record.PackedForm.{PackedForm}
+use Rattle.form.specs.declared.packed.PackedForm.{PackedForm}
+use Rattle.form.specs.Packed.{formOf, packed, blankForm}
 use Rattle.sheet.specs.declared.record.Record.{Record}
-use Rattle.sheet.specs.View.{formOf, packed, blankForm, blankRecord, recordIn, decodedAs, decoded, lengthOf, lengthOfKind}
+use Rattle.sheet.specs.View.{blankRecord, recordIn, decodedAs, decoded, lengthOf, lengthOfKind}
 
 by-number : (P : ℕ → Option Kind → Type 0) (n m : ℕ) (x y : Option Kind) → P m x → ((n ≡ m → ⊥) → P n y) → P n (cond (eqb n m) x y)
 by-number P n m x y p q = go (eqb n m) refl

@@ -1,6 +1,3 @@
-pub mod Signed
-pub mod Patterns
-pub mod Fields
 pub mod ByKind
 pub mod Heads
 pub mod Ranges
@@ -8,13 +5,4 @@ pub mod Openings
 pub mod OneRecord
 pub mod Reading
 pub mod Decoding
-pub mod Bodies
-pub mod Blanks
-pub mod Given
-pub mod LaidRecord
-pub mod Laying
-pub mod Writes
-pub mod Reckoned
-pub mod FormLists
-pub mod FormLaws
-pub mod FormSizes
+pub mod WrittenBack

@@ -13,8 +13,6 @@ use Rattle.sheet.specs.declared.reader.ReadAnswer.the-variants as read
 use Rattle.sheet.specs.declared.nesting.Passed.{Passed}
 use Rattle.sheet.specs.declared.nesting.Step.{Step}
 use Rattle.sheet.specs.declared.nesting.Step.the-variants as step
-use Rattle.sheet.specs.declared.writer.WriteAnswer.{WriteAnswer}
-use Rattle.sheet.specs.declared.writer.WriteAnswer.the-variants as write
 use Rattle.sheet.specs.declared.record.Record.{Record}
 use Rattle.sheet.specs.View.{blankRecord, recordIn}
 use Rattle.sheet.specs.Nestings.{nestingOf}
@@ -54,8 +52,3 @@ orZero (refused number place) = 0
 unfoldable pub listed : Result (List M.Record) → List Record
 listed (ok rs) = map recordIn rs ++ replicate (64 - length rs) (blankRecord 0)
 listed (refused number place) = replicate 64 (blankRecord 0)
-
--- the writer's answer: the sheet's length, or a refusal
-abbrev pub writeResult : WriteAnswer → Result ℕ
-writeResult (write.Length n) = ok n
-writeResult (write.Refused r) = refused (r .number) (r .offset)

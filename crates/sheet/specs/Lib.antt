@@ -1,6 +1,3 @@
 pub mod View
-pub mod Forms
-pub mod Fits
 pub mod Nestings
 pub mod Answers
-pub mod Writing

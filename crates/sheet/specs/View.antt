@@ -2,26 +2,11 @@
 use mathlib.Core.List.{List}
 use mathlib.Core.Option.{Option, none, some}
 use Prim.Native.Nat.{ℕ}
-use lib.IntN.{pos}
-use lib.ListN.{replicate}
-use Rattle.meaning.specs.Form.{Form}
 use Rattle.meaning.specs.Record as M
 use Rattle.meaning.specs.Record.{Kind, kindOf, bodyLength, decodeRecord, workRecord, loopRecord, endRecord, choiceRecord, nextArmRecord}
 use Rattle.meaning.specs.Writer.{RawRecord}
-use Rattle.sheet.specs.declared.record.PackedForm.{PackedForm}
+use Rattle.form.specs.Packed.{formOf, packed, blankForm}
 use Rattle.sheet.specs.declared.record.Record.{Record}
-
--- a form of the meaning has just these three parts
-abbrev pub formOf : PackedForm → Form
-formOf f = record { constant = f .constant; index = f .index; parameter = f .parameter }
-
--- the same the other way
-abbrev pub packed : Form → PackedForm
-packed f = record { constant = f .constant; index = f .index; parameter = f .parameter }
-
--- the form whose every part is 0
-abbrev pub blankForm : PackedForm
-blankForm = record { constant = pos 0; index = replicate 3 (pos 0); parameter = replicate 4 (pos 0) }
 
 -- a record of a kind's number whose every field is 0
 abbrev pub blankRecord : ℕ → Record

@@ -11,8 +11,6 @@ ghost use Rattle.meaning.specs.Reader.{accept};
 ghost use Rattle.sheet.specs.Nestings.{loopDigit, nestingOf, fieldsPass, mayStand, openAfterKind};
 ghost use Rattle.sheet.specs.Answers.{stepResult, stepOf};
 use crate::loops::Loop;
-use crate::number::byte_at;
-use crate::number::unsigned16_at;
 use crate::record::CHOICE;
 use crate::record::END;
 use crate::record::LOOP;
@@ -21,6 +19,8 @@ use crate::record::MAX_OPEN;
 use crate::record::NEXT_ARM;
 use crate::record::WORK;
 use crate::refusal::Refusal;
+use form::number::byte_at;
+use form::number::unsigned16_at;
 
 // How many records are open, how many of these are loops, and which: bit 0 of `loops` is 1 where the innermost is a loop, and so on outward.
 pub struct Nesting {
@@ -30,12 +30,12 @@ pub struct Nesting {
 }
 
 // A record that is in its place: its length, and what is open after it.
-pub(crate) struct Passed {
+pub struct Passed {
     pub length: usize,
     pub after: Nesting,
 }
 
-pub(crate) enum Step {
+pub enum Step {
     Accepted(Passed),
     Refused(Refusal),
 }
@@ -177,7 +177,7 @@ impl Nesting {
 }
 
 // Refusals 3 and 5, in this order, of a record that would stand at an offset where `here` is open.
-pub(crate) fn accept_record(at: usize, here: Nesting, kind: u8, body: &[u8]) -> Step
+pub fn accept_record(at: usize, here: Nesting, kind: u8, body: &[u8]) -> Step
     ensures { λ r. ⌜ ((os : List Open) (k : Kind) → here ≡ nestingOf os → kindOf kind ≡ some k → length (now (body .entry)) ≡ bodyLength k → stepResult r ≡ stepOf (accept at os (decodeRecord k (now (body .entry))))) ⌝ }
 {
     if !fields_in_range(kind, body, here.depth) {

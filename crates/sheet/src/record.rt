@@ -2,10 +2,12 @@
 ghost use mathlib.Core.Path.{_≡_};
 ghost use Prim.Native.Nat.{_≤_};
 ghost use Rattle.meaning.specs.Form.{formAt};
-ghost use Rattle.sheet.specs.View.{formOf, blankForm, blankRecord, decoded, lengthOfKind};
-use crate::number::signed8_at;
-use crate::number::signed16_at;
-use crate::number::unsigned16_at;
+ghost use Rattle.form.specs.Packed.{formOf};
+ghost use Rattle.sheet.specs.View.{blankRecord, decoded, lengthOfKind};
+use form::number::signed8_at;
+use form::number::signed16_at;
+use form::number::unsigned16_at;
+use form::packed::PackedForm;
 
 pub const WORK: u8 = 1;
 
@@ -23,13 +25,6 @@ pub const MAX_DEPTH: usize = 4;
 
 pub const MAX_OPEN: usize = 8;
 
-// A form at the widths that it has in a sheet.
-pub struct PackedForm {
-    pub constant: i16,
-    pub index: [i8; 3],
-    pub parameter: [i8; 4],
-}
-
 pub struct Record {
     pub kind: u8,
     pub least: u16,
@@ -39,18 +34,6 @@ pub struct Record {
     pub stride: u16,
     pub lower: PackedForm,
     pub upper: PackedForm,
-}
-
-impl PackedForm {
-    pub fn blank() -> PackedForm
-        ensures { λ r. ⌜ r ≡ blankForm ⌝ }
-    {
-        PackedForm {
-            constant: 0,
-            index: [0; 3],
-            parameter: [0; 4],
-        }
-    }
 }
 
 // The form in the nine bytes from an offset of a loop's body.

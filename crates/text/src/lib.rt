@@ -18,8 +18,8 @@ use crate::lines::put_refusal_line;
 use crate::loops::put_loops;
 use figures::Answer;
 use figures::cycles;
-use sheet::number::signed16_at;
-use sheet::number::unsigned16_at;
+use form::number::signed16_at;
+use form::number::unsigned16_at;
 use sheet::refusal::Refusal;
 
 // Four parameters of 2 bytes each and a budget of 4 bytes stand before the sheet.

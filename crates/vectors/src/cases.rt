@@ -4,11 +4,11 @@ use crate::numbers::PARAMETERS;
 use crate::plans::LINE;
 use crate::stages::MOST_STAGES;
 use crate::stages::STATE;
-use sheet::number::byte_at;
-use sheet::number::signed8_at;
-use sheet::number::signed16_at;
-use sheet::number::unsigned16_at;
-use sheet::record::PackedForm;
+use form::number::byte_at;
+use form::number::signed8_at;
+use form::number::signed16_at;
+use form::number::unsigned16_at;
+use form::packed::PackedForm;
 use sheet::record::Record;
 
 pub(crate) const READER: u8 = 1;

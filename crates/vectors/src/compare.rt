@@ -10,12 +10,12 @@ use crate::cases::entries_length;
 use crate::cases::record_in;
 use crate::plans::plan_agrees;
 use crate::stages::stages_agree;
+use form::packed::PackedForm;
 use sheet::reader::ReadAnswer;
 use sheet::reader::read_sheet;
-use sheet::record::PackedForm;
 use sheet::record::Record;
-use sheet::writer::WriteAnswer;
-use sheet::writer::write_sheet;
+use writer::WriteAnswer;
+use writer::write_sheet;
 
 fn same_three(a: [i8; 3], b: [i8; 3]) -> bool {
     a[0] == b[0] && a[1] == b[1] && a[2] == b[2]

@@ -1,6 +1,6 @@
 // Numbers of what follows a case's sheet.
-use sheet::number::signed16_at;
-use sheet::number::unsigned16_at;
+use form::number::signed16_at;
+use form::number::unsigned16_at;
 
 // The number in four bytes.
 pub(crate) fn unsigned32_at(given: &[u8], at: u8) -> u32 {

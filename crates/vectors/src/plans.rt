@@ -2,13 +2,13 @@
 use crate::cases::Case;
 use crate::numbers::PARAMETERS;
 use crate::numbers::parameters_in;
+use form::number::byte_at;
+use form::number::unsigned16_at;
 use nest::plan::PlanAnswer;
 use nest::plan::plan;
 use nest::report::LoopReport;
 use nest::report::Report;
 use nest::report::report_of;
-use sheet::number::byte_at;
-use sheet::number::unsigned16_at;
 
 // How many bytes a loop's line takes.
 pub(crate) const LINE: usize = 5;

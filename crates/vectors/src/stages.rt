@@ -4,7 +4,7 @@ use crate::numbers::PARAMETERS;
 use crate::numbers::parameters_in;
 use crate::numbers::unsigned32_at;
 use crate::numbers::unsigned64_at;
-use sheet::number::unsigned16_at;
+use form::number::unsigned16_at;
 use stage::State;
 use stage::first;
 use stage::stage::stage;

@@ -1,8 +1,9 @@
 use mathlib.Core.Path.{_∙_, ap}
 use Rattle.meaning.specs.Form.{subtract}
+use Rattle.form.specs.Packed.{formOf}
+use Rattle.form.specs.Forms.{folded}
 use Rattle.sheet.specs.declared.record.Record.{Record}
-use Rattle.sheet.specs.View.{formOf, decoded}
-use Rattle.sheet.specs.Forms.{folded}
+use Rattle.sheet.specs.View.{decoded}
 use borrow.Author.Needs.{needs}
 use Rattle.nest.proofs.facts.forms_at.Statement.{statement}
 use Rattle.nest.proofs.facts.forms_at.Tie as tie

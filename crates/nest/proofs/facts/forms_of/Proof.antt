@@ -1,5 +1,5 @@
 use mathlib.Core.Path.{refl, _∙_, ap}
-use Rattle.sheet.specs.Forms.{folded}
+use Rattle.form.specs.Forms.{folded}
 use borrow.Author.Needs.{needs}
 use Rattle.nest.proofs.facts.forms_of.Statement.{statement}
 use Rattle.nest.proofs.facts.forms_of.Tie as tie

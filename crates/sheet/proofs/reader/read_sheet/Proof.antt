@@ -1,6 +1,6 @@
 use mathlib.Core.Path.{ap, _∙_}
 use Rattle.sheet.specs.Answers.{countResult, orZero}
-use Rattle.sheet.proofs.Writes.{bytes-all, written-back}
+use Rattle.sheet.proofs.WrittenBack.{bytes-all, written-back}
 use borrow.Author.Needs.{needs}
 use Rattle.sheet.proofs.reader.read_sheet.Statement.{statement}
 use Rattle.sheet.proofs.reader.read_sheet.Tie as tie

@@ -1,6 +1,6 @@
 use mathlib.Core.List.{[], _∷_}
 use Rattle.meaning.specs.Form.{formAt}
-use Rattle.sheet.proofs.Signed.{kept}
+use Rattle.form.proofs.Signed.{kept}
 use borrow.Author.Needs.{needs}
 use Rattle.sheet.proofs.record.form_at.Statement.{statement}
 use Rattle.sheet.proofs.record.form_at.Tie as tie

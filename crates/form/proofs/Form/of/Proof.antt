@@ -1,0 +1,24 @@
+use mathlib.Core.Path.{_≡_, ap, _∙_}
+use lib.ListN.{length}
+use borrow.Author.Needs.{needs}
+use Rattle.meaning.specs.Form as M
+use Rattle.form.specs.Packed.{formOf}
+use Rattle.form.proofs.FormLists.{subtract-blank}
+use Rattle.form.proofs.Form.of.Statement.{statement}
+use Rattle.form.proofs.Form.of.Tie as tie
+
+blank-requires : tie.Need-blank-requires
+blank-requires c κs = search needs
+
+subtract-requires : tie.Need-subtract-requires
+subtract-requires c κs = search needs
+
+returns : tie.Need-returns
+returns c =
+    let f = c .before .before .args .f in
+    let hi : length (f .index) ≡ 3 = search needs in
+    let hp : length (f .parameter) ≡ 4 = search needs in
+    c .subtract .ensures ∙ ap (λ g. M.subtract (formOf f) (formOf g)) (c .before .blank .ensures) ∙ subtract-blank (formOf f) hi hp
+
+pub of-spec : {M : Type 1} → statement M
+of-spec = tie.close (tie.spec blank-requires subtract-requires returns)

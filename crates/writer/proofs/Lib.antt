@@ -1,0 +1,7 @@
+pub mod Patterns
+pub mod Bodies
+pub mod Blanks
+pub mod Given
+pub mod LaidRecord
+pub mod Laying
+pub mod Writes
