@@ -4,7 +4,7 @@ import antt
 from antt import Equation, inner, listed, octets, term
 from call_cases import C_CALL_CASES, READER_CASES, TEXT_CASES
 from calls import INPUT_LIMIT, c_call, program_text
-from crosscheck import FIGURE_LIMIT, VISITS_PER_LOOP
+from consistency import FIGURE_LIMIT, VISITS_PER_LOOP
 from records import Form, Refusal
 from sheet import Part, record_at, write
 from writer_cases import (

@@ -14,7 +14,7 @@ import sys
 import unittest
 from random import Random
 
-import crosscheck
+import consistency
 import stages
 import trips
 from calls import Called, Figures, answer, c_call, program_text, reports
@@ -58,9 +58,9 @@ class KnownSheets(unittest.TestCase):
     def test_all_ways_agree(self) -> None:
         for case in MARKED:
             with self.subTest(case.tells):
-                self.assertTrue(crosscheck.check_stages(case.records, case.parameters, 10_000))
-                crosscheck.check_round_trip(case.records)
-                crosscheck.check_facts(case.records, case.parameters)
+                self.assertTrue(consistency.check_stages(case.records, case.parameters, 10_000))
+                consistency.check_round_trip(case.records)
+                consistency.check_facts(case.records, case.parameters)
 
     def test_stage_reads_the_sheet_itself(self) -> None:
         sheet = encode_all(TRIANGLE)
@@ -168,11 +168,11 @@ class RandomSheets(unittest.TestCase):
             gone_over = 0
             for _ in range(SHEETS):
                 records, values = valid_records(random, size), parameters(random)
-                crosscheck.check_round_trip(records)
-                crosscheck.check_facts(records, values)
+                consistency.check_round_trip(records)
+                consistency.check_facts(records, values)
                 if ceiling_refusal(records, values) is None:
-                    crosscheck.check_ceilings(records, values, random)
-                    gone_over += crosscheck.check_stages(records, values, TRIPS)
+                    consistency.check_ceilings(records, values, random)
+                    gone_over += consistency.check_stages(records, values, TRIPS)
             self.assertGreater(gone_over, SHEETS // 4)
 
     def test_runs(self) -> None:
@@ -183,7 +183,7 @@ class RandomSheets(unittest.TestCase):
                 bounds = trips.time(records, values, 300)
             except trips.TooMany:
                 continue
-            crosscheck.check_runs(records, values, bounds, random)
+            consistency.check_runs(records, values, bounds, random)
 
     def test_damaged_and_hostile(self) -> None:
         for case in cases(Random("damaged"), SHEETS, SIZES["small"]):
@@ -192,9 +192,9 @@ class RandomSheets(unittest.TestCase):
                 self.assertEqual(answer(case.sheet, case.parameters, 500), records)
                 continue
             self.assertEqual(encode_all(records), case.sheet)
-            crosscheck.check_facts(records, case.parameters)
+            consistency.check_facts(records, case.parameters)
             if ceiling_refusal(records, case.parameters) is None:
-                crosscheck.check_stages(records, case.parameters, 300)
+                consistency.check_stages(records, case.parameters, 300)
 
 
 if __name__ == "__main__":
