@@ -1,12 +1,12 @@
 # `make test` is the gate; the other targets are its parts, for the desk.
-.PHONY: setup test check run run-c bench dist dist-library dist-program dist-test reference examples cases cross-check picture format
+.PHONY: setup test check run run-c bench dist dist-library dist-program dist-test stack reference examples cases cross-check picture format
 
 test:
 	bash .ci/run
 
 # What the other targets need beyond the kit, from Debian's packages; the gate needs none of it.
 setup:
-	apt-get install -y gcc libc6-dev pkg-config python3 rustc valgrind
+	apt-get install -y binutils gcc libc6-dev pkg-config python3 rustc valgrind
 
 # Prove what changed since the last check.
 check:
@@ -50,6 +50,11 @@ dist-program:
 # Build the examples in C and Rust against the package alone, and run them and the program, natively and under valgrind.
 dist-test: dist
 	packaging/test.sh dist
+
+# The most stack that a call takes, from the machine code; the header promises that 20 KB suffice.
+stack:
+	rt staticlib figures
+	python3 packaging/stack.py target/staticlib/libfigures.a 20000
 
 # The independent reckoning's own tests, and its comparison with what the documents show.
 reference:
