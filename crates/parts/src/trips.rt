@@ -7,10 +7,8 @@ use crate::cells::base_at;
 use crate::cells::push_at;
 use crate::cells::stride_at;
 use newton::product::wrapping_product;
+use sheet::loops::Loop;
 use std::num::wrapping_add_u64;
-
-// The largest number of trips that a loop of an answered sheet makes.
-const CEILING: u64 = 2048;
 
 // 2^63: from here on a distance in two's complement is negative.
 const NEGATIVE: u64 = 0x8000_0000_0000_0000;
@@ -44,7 +42,11 @@ fn trips_over(stride: u64, d: u64) -> u64
         return 0;
     }
     let steps = quotient(d, stride);
-    if steps < CEILING { steps + 1 } else { CEILING }
+    if steps < Loop::MAX_CEILING {
+        steps + 1
+    } else {
+        Loop::MAX_CEILING
+    }
 }
 
 // The trips of loop k.

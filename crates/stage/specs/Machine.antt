@@ -36,7 +36,7 @@ module _ (rows slopes : List ℕ) (count : ℕ) where
       let t : State = passWorks rows count s in
       passFollowing (followingAt (t .at)) (λ u. bodyEvaluator many u) t
 
--- a stage on a plan with so many records: each is passed at most once; no plan has more than 64
+-- a stage on a plan with so many records, at most 64; of a sheet's plan it passes each at most once
 unfoldable pub stageOn : List ℕ → List ℕ → ℕ → State → Passed
 stageOn rows slopes count s = let records : ℕ = min count recordLimit in bodyEvaluator rows slopes records records s
 

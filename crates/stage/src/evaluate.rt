@@ -9,7 +9,7 @@ use crate::pass::pass_choice;
 use crate::pass::pass_works;
 
 // The body evaluator: what follows one another, with at most `left` records that are no works; answers where the stage then stands.
-pub fn evaluate_body(
+pub(crate) fn evaluate_body(
     rows: &[u64; 512],
     slopes: &[u64; 512],
     count: usize,

@@ -8,7 +8,7 @@ use parts::sums::least_of;
 use parts::sums::most_of;
 
 // Where the trips of a loop with so many loops around it begin: 0, 6, 10, 12.
-pub fn kept_from(depth: usize) -> usize
+pub(crate) fn kept_from(depth: usize) -> usize
     requires { ⌜ depth < 4 ⌝ }
     ensures { λ r. ⌜ r ≡ keptFrom depth ⌝ }
 {
@@ -23,7 +23,7 @@ fn kept_at(kept: &[u64; 12], place: usize) -> u64
 }
 
 // The open trip is kept, `held` trips before it.
-pub fn keep(kept: &mut [u64; 12], depth: usize, held: usize, sums: &[u64; 3])
+pub(crate) fn keep(kept: &mut [u64; 12], depth: usize, held: usize, sums: &[u64; 3])
     requires { ⌜ depth + held < 3 ⌝ }
     ensures { λ _. ⌜ now (kept .exit) ≡ tripKept (now (kept .entry)) depth held (now (sums .entry)) ⌝ }
 {
@@ -35,7 +35,7 @@ pub fn keep(kept: &mut [u64; 12], depth: usize, held: usize, sums: &[u64; 3])
 }
 
 // The first trips' least or most, from a place on: `held` kept ones, then the open one.
-pub fn first_trips(kept: &[u64; 12], from: usize, held: u64, last: u64) -> [u64; 4]
+pub(crate) fn first_trips(kept: &[u64; 12], from: usize, held: u64, last: u64) -> [u64; 4]
     requires { ⌜ (held < 4) × (from + 2 * held < 14) ⌝ }
     ensures { λ r. ⌜ r ≡ firstTrips (now (kept .entry)) from held last ⌝ }
 {
@@ -55,7 +55,7 @@ pub fn first_trips(kept: &[u64; 12], from: usize, held: u64, last: u64) -> [u64;
 }
 
 // So many numbers from a place on become 0.
-pub fn blank(kept: &mut [u64; 12], from: usize, count: usize)
+pub(crate) fn blank(kept: &mut [u64; 12], from: usize, count: usize)
     requires { ⌜ from + count ≤ 12 ⌝ }
     ensures { λ _. ⌜ now (kept .exit) ≡ blanked (now (kept .entry)) from count ⌝ }
 {
@@ -67,7 +67,7 @@ pub fn blank(kept: &mut [u64; 12], from: usize, count: usize)
 }
 
 // How many trips of a closed loop are held before the open one.
-pub fn held_trips(limit: u64, counter: u64) -> u64
+pub(crate) fn held_trips(limit: u64, counter: u64) -> u64
     requires { ⌜ 1 ≤ limit ⌝ }
     ensures { λ r. ⌜ r ≡ heldTrips limit counter ⌝ }
 {

@@ -44,7 +44,7 @@ fn within(count: usize) -> usize
     if count < 64 { count } else { 64 }
 }
 
-// One stage on a plan with so many records: each is passed at most once.
+// One stage on a plan with so many records; of a sheet's plan it passes each at most once.
 pub fn stage_on(rows: &[u64; 512], slopes: &[u64; 512], count: usize, s: State) -> State
     ensures { λ r. ⌜ r ≡ nextOn (now (rows .entry)) (now (slopes .entry)) count s ⌝ }
 {

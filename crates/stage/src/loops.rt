@@ -206,7 +206,7 @@ fn enter_loop(
 }
 
 // A loop's record, or its end.
-pub fn pass_loop(
+pub(crate) fn pass_loop(
     rows: &[u64; 512],
     slopes: &[u64; 512],
     at: usize,

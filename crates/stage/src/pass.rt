@@ -22,7 +22,7 @@ use parts::sums::reset;
 use std::num::wrapping_add_u64;
 
 // Straight works, from record `from` on; answers the first record that is none.
-pub fn pass_works(rows: &[u64; 512], count: usize, from: usize, sums: &mut [u64; 3]) -> usize
+pub(crate) fn pass_works(rows: &[u64; 512], count: usize, from: usize, sums: &mut [u64; 3]) -> usize
     ensures { λ r. ⌜ ((counters frames kept : List ℕ) →
         passWorks (now (rows .entry)) count (stateWith from (now (sums .entry)) counters frames kept)
         ≡ stateWith r (now (sums .exit)) counters frames kept) ⌝ }
@@ -44,7 +44,7 @@ pub fn pass_works(rows: &[u64; 512], count: usize, from: usize, sums: &mut [u64;
 }
 
 // Whether record k is a loop or a loop's end.
-pub fn of_loop(rows: &[u64; 512], k: usize) -> bool
+pub(crate) fn of_loop(rows: &[u64; 512], k: usize) -> bool
     ensures { λ r. ⌜ r ≡ isOfLoop (now (rows .entry)) k ⌝ }
 {
     let kind = kind_at(rows, k);
@@ -56,7 +56,7 @@ pub fn of_loop(rows: &[u64; 512], k: usize) -> bool
 }
 
 // A choice, a next arm or a choice's end; answers the record after it.
-pub fn pass_choice(
+pub(crate) fn pass_choice(
     rows: &[u64; 512],
     at: usize,
     sums: &mut [u64; 3],
