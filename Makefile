@@ -1,4 +1,4 @@
-# `make test` is the gate; the other targets are its parts, for the desk.
+# `make test` is the gate; the other targets are for the desk.
 .PHONY: setup test check run run-c bench dist dist-library dist-program dist-test stack reference examples cases cross-check picture format
 
 test:
@@ -41,7 +41,7 @@ dist-library:
 	install -D -m 644 -t dist/include include/pumdalin.h
 	mkdir -p dist/lib/pkgconfig
 	sed "s/@VERSION@/$$(cat VERSION)/" packaging/pumdalin.pc.in > dist/lib/pkgconfig/pumdalin.pc
-	cp -r README.md $(wildcard LICENSE* LICENCE*) docs examples dist
+	cp -r README.md docs examples dist
 
 dist-program:
 	rt check bound
@@ -76,7 +76,7 @@ picture:
 	python3 reference/picture.py docs/figures.svg
 
 # Compare the static library and bound with the independent reckoning: the listings of
-# examples/, the kept cases, and CASES random sheets. Without SEED another one is taken each time, and named.
+# examples/, the kept cases, and CASES random calls. Without SEED another one is taken each time, and named.
 CASES = 2000
 cross-check:
 	rt staticlib figures

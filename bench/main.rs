@@ -1,4 +1,4 @@
-//! Times the proved call against plain Rust, in one run, after both have agreed on every stored case.
+//! Times the proved call against plain Rust, in one run, after all have agreed on the stored cases.
 mod plain;
 #[path = "../examples/pumdalin.rs"]
 mod pumdalin;

@@ -35,7 +35,10 @@ static struct guarded guarded_bytes(size_t length)
 
     made.page_length = (size_t)sysconf(_SC_PAGESIZE);
     made.length = length;
-    guarded_demand(length <= made.page_length, "more than a page");
+    if (length > made.page_length) {
+        fputs("more than a page\n", stderr);
+        exit(2);
+    }
     made.page = mmap(NULL, 2 * made.page_length, PROT_READ | PROT_WRITE, MAP_PRIVATE | MAP_ANONYMOUS, -1, 0);
     guarded_demand(made.page != MAP_FAILED, "mmap");
     guarded_demand(mprotect(made.page + made.page_length, made.page_length, PROT_NONE) == 0, "mprotect");

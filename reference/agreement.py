@@ -48,7 +48,11 @@ class Difference(Exception):
 
 
 def program_at(path: str) -> Program:
-    return lambda data: subprocess.run([path], input=data, stdout=subprocess.PIPE).stdout
+    """A program that fails writes nothing that could agree."""
+    def answers(data: bytes) -> bytes:
+        run = subprocess.run([path], input=data, stdout=subprocess.PIPE)
+        return run.stdout if run.returncode == 0 else b""
+    return answers
 
 
 def difference(tells: str, sheet: str, answers: dict[str, str]) -> Difference:
@@ -181,11 +185,13 @@ def check_random(seed: int, count: int, library: Program, program: Optional[Prog
 
 
 def check_all(given: argparse.Namespace) -> None:
-    library, program = program_at(given.library), None
-    if given.program and os.path.isfile(given.program):
-        program = program_at(given.program)
+    for path in filter(None, (given.library, given.program)):
+        if not os.path.isfile(path):
+            raise Difference(f"{path}: no such program")
+    library = program_at(given.library)
+    program = program_at(given.program) if given.program else None
     print("compared with the reckoning: the static library",
-          f"and {given.program}" if program else "alone, since bound is not there", flush=True)
+          f"and {given.program}" if program else "alone", flush=True)
     if given.listings:
         paths = sorted(Path(given.listings).rglob("*.listing"))
         answers = sum(check_listing(path, library, program) for path in paths)

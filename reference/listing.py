@@ -28,7 +28,8 @@ line is indented makes no difference.
 
 Three more lines say what the sheet is to be tried with. Parameters and budget
 hold for the lines after them; before they are given, parameters are 0 and the
-budget is 1,000,000. `make --input` takes those of the first expectation.
+budget is 1,000,000. `make --input` takes those of the first expectation or, where
+nothing is expected, those given last.
 
     parameters 100 -3        # p1 and p2; those not given are 0
     budget 1000

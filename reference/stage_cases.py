@@ -8,7 +8,8 @@ of the number of records, and 0 for what it has not. After the sheet follow the
 four parameters, 2 bytes each, and for each stage 22 bytes of the state that it
 returns: the records passed, 2 bytes, the visits, 4 bytes, and the least and the
 most of the innermost open trip or arm, or else of the sheet, 8 bytes each. The
-last stage but one reaches the sheet's end; the last one stays there.
+last stage but one reaches the sheet's end; the last one stays there. A refused
+or empty sheet has one stage, which changes nothing.
 """
 
 import os

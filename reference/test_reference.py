@@ -1,16 +1,15 @@
 """Tests of the reckoning.
 
-    python3 test_reference.py [READINGS]
+    python3 test_reference.py
 
-READINGS is the readings file, by default readings.txt beside this file; the
-environment variable READINGS names it too. SHEETS sets the number of random
-sheets of each kind.
+The environment variable READINGS names the readings file, by default
+readings.txt beside this file; SHEETS sets the number of random sheets of each
+kind.
 """
 
 import contextlib
 import io
 import os
-import sys
 import unittest
 from random import Random
 
@@ -198,6 +197,4 @@ class RandomSheets(unittest.TestCase):
 
 
 if __name__ == "__main__":
-    if len(sys.argv) == 2:
-        READINGS = sys.argv.pop()
     unittest.main()

@@ -1,5 +1,5 @@
 // What a stage is made of: a plan's numbers and a loop's trips, and the parts of a state with the small steps that change them.
-// Every function here takes any numbers.
+// Every public function takes any numbers.
 pub mod cells;
 pub mod frames;
 pub mod sums;

@@ -145,7 +145,7 @@ fn end_closed(
     }
 }
 
-// The end of loop k.
+// The end of a trip of loop k.
 fn end_trip(
     rows: &[u64; 512],
     slopes: &[u64; 512],
