@@ -54,8 +54,13 @@ fn form_at(sheet: &[u8], at: usize, parameters: [i16; 4], depth: usize) -> (Form
     (form, good)
 }
 
-fn read(sheet: &[u8], parameters: [i16; 4]) -> Result<Plan, Refused> {
-    let mut plan = Plan { records: [Record::default(); 64], count: 0 };
+impl Plan {
+    fn new() -> Plan {
+        Plan { records: [Record::default(); 64], count: 0 }
+    }
+}
+
+fn read(sheet: &[u8], parameters: [i16; 4], plan: &mut Plan) -> Result<(), Refused> {
     let mut open = [(0usize, false, 0usize); 9];
     let (mut size, mut loops, mut at) = (0, 0, 0);
     while at < sheet.len() {
@@ -122,7 +127,7 @@ fn read(sheet: &[u8], parameters: [i16; 4]) -> Result<Plan, Refused> {
     if size != 0 {
         return Err((5, at));
     }
-    Ok(plan)
+    Ok(())
 }
 
 fn dot(form: &Form, values: &[i64; 4]) -> i64 {
@@ -140,8 +145,8 @@ fn range(form: &Form, lo: &[i64; 4], hi: &[i64; 4]) -> (i64, i64) {
 }
 
 /// Ranges, pushes and ceilings of all loops; then which are closed, and how many trips these visit.
-pub fn plan(sheet: &[u8], parameters: [i16; 4]) -> Result<Plan, Refused> {
-    let mut plan = read(sheet, parameters)?;
+pub fn plan(sheet: &[u8], parameters: [i16; 4], plan: &mut Plan) -> Result<(), Refused> {
+    read(sheet, parameters, plan)?;
     let (mut lo, mut hi, mut start) = ([0i64; 4], [0i64; 4], [0i64; 4]);
     let mut pushes = [[0i64; 4]; 4];
     for k in 0..plan.count {
@@ -179,10 +184,10 @@ pub fn plan(sheet: &[u8], parameters: [i16; 4]) -> Result<Plan, Refused> {
     }
     for k in 0..plan.count {
         if plan.records[k].kind == 2 {
-            plan.records[k].limit = limit(&plan, k);
+            plan.records[k].limit = limit(plan, k);
         }
     }
-    Ok(plan)
+    Ok(())
 }
 
 /// Height + 1 for a closed loop, 0 for a walked one.
@@ -218,8 +223,12 @@ pub struct State {
     pub visits: u64,
     counters: [u64; 4],
     frames: [Frame; 8],
-    kept: [[[u64; 2]; 3]; 4],
+    /// The trips kept of a closed loop: three of one at depth 1, two at depth 2, one at depth 3.
+    kept: [[u64; 2]; 6],
 }
+
+/// Where the kept trips of a loop at each depth begin.
+const KEPT_FROM: [usize; 4] = [0, 3, 5, 6];
 
 fn trips(r: &Record, counters: &[u64; 4]) -> u64 {
     let mut d = r.base;
@@ -288,7 +297,7 @@ impl State {
                 let f = &mut self.frames[o];
                 f.passed = [f.passed[0].wrapping_add(sums[0]), f.passed[1].wrapping_add(sums[1])];
             } else {
-                self.kept[d][counter as usize] = self.sums;
+                self.kept[KEPT_FROM[d] + counter as usize] = self.sums;
             }
             self.counters[d] += 1;
             self.begin(opener + 1);
@@ -302,16 +311,18 @@ impl State {
             for which in 0..2 {
                 let mut v = [0; 4];
                 for i in 0..counter as usize {
-                    v[i] = self.kept[d][i][which];
+                    v[i] = self.kept[KEPT_FROM[d] + i][which];
                 }
                 v[counter as usize] = self.sums[which];
                 total[which] = newton(n, visited as usize, v);
+            }
+            for i in 0..counter as usize {
+                self.kept[KEPT_FROM[d] + i] = [0; 2];
             }
         }
         self.sums = self.frames[o].around;
         self.add(total);
         self.frames[o] = Frame::default();
-        self.kept[d] = [[0; 2]; 3];
         self.counters[d] = 0;
         false
     }
@@ -363,11 +374,11 @@ fn next_state(plan: &Plan, mut s: State) -> State {
     s
 }
 
-fn planned(sheet: &[u8], parameters: [i16; 4], budget: u32) -> Result<Plan, Refused> {
+fn planned(sheet: &[u8], parameters: [i16; 4], budget: u32, filled: &mut Plan) -> Result<(), Refused> {
     if budget == 0 || budget > 1_000_000 {
         return Err((7, 0));
     }
-    plan(sheet, parameters)
+    plan(sheet, parameters, filled)
 }
 
 fn figures_of(s: &State, budget: u32) -> Result<[u64; 3], Refused> {
@@ -379,7 +390,8 @@ fn figures_of(s: &State, budget: u32) -> Result<[u64; 3], Refused> {
 
 /// Each stage gets the state that the last one returned.
 pub fn figures(sheet: &[u8], parameters: [i16; 4], budget: u32) -> Result<[u64; 3], Refused> {
-    let plan = planned(sheet, parameters, budget)?;
+    let mut plan = Plan::new();
+    planned(sheet, parameters, budget, &mut plan)?;
     let mut s = State::default();
     while s.at < plan.count && s.visits <= budget as u64 {
         s = next_state(&plan, s);
@@ -389,7 +401,8 @@ pub fn figures(sheet: &[u8], parameters: [i16; 4], budget: u32) -> Result<[u64; 
 
 /// Each stage changes the one state in its place.
 pub fn figures_in_place(sheet: &[u8], parameters: [i16; 4], budget: u32) -> Result<[u64; 3], Refused> {
-    let plan = planned(sheet, parameters, budget)?;
+    let mut plan = Plan::new();
+    planned(sheet, parameters, budget, &mut plan)?;
     let mut s = State::default();
     while s.at < plan.count && s.visits <= budget as u64 {
         stage(&plan, &mut s);
@@ -439,6 +452,7 @@ fn walk_arms(plan: &Plan, at: usize, counters: &mut [u64; 4]) -> [u64; 2] {
 
 /// Least and most trip by trip, with no differences and no visits.
 pub fn trip_by_trip(sheet: &[u8], parameters: [i16; 4]) -> Result<[u64; 2], Refused> {
-    let plan = plan(sheet, parameters)?;
-    Ok(walk(&plan, 0, &mut [0; 4]).0)
+    let mut filled = Plan::new();
+    plan(sheet, parameters, &mut filled)?;
+    Ok(walk(&filled, 0, &mut [0; 4]).0)
 }

@@ -6,8 +6,8 @@ mod put;
 ghost use mathlib.Core.Path.{_≡_};
 ghost use mathlib.Core.List.{_++_};
 ghost use Prim.Native.Nat.{_+_, _*_, _≤_};
-ghost use lib.ListN.{length, drop};
-ghost use Rattle.meaning.specs.Limits.{recordLimit};
+ghost use lib.ListN.{length, take, drop};
+ghost use Rattle.meaning.specs.Limits.{recordLimit, inputLimit};
 ghost use Rattle.meaning.specs.Reader.{read};
 ghost use Rattle.meaning.specs.Answer.{answer};
 ghost use Rattle.meaning.specs.Program.{answerText, inputBudget, programText, reportsOf};
@@ -50,11 +50,12 @@ fn put_answer(sheet: &[u8], parameters: [i16; 4], budget: u32, buffer: &mut [u8]
     }
 }
 
-// Stores the text at the buffer's start and answers its length; the bytes after it stay.
+// Stores the text at the buffer's start and answers its length; the bytes after it stay. At most 1,613 bytes of the input matter.
 pub fn program_text(input: &[u8], buffer: &mut [u8; 4096]) -> usize
     ensures length { λ r. ⌜ r ≡ length (programText (now (input .entry))) ⌝ }
     ensures bytes { λ _. ⌜ now (buffer .exit) ≡ programText (now (input .entry)) ++ drop (length (programText (now (input .entry)))) (now (buffer .entry)) ⌝ }
     ensures fits { λ r. ⌜ (r ≤ 4096) × (length (now (buffer .exit)) ≡ 4096) ⌝ }
+    ensures cut { λ _. ⌜ programText (now (input .entry)) ≡ programText (take inputLimit (now (input .entry))) ⌝ }
 {
     if input.len() < HEADER_LENGTH {
         return put_refusal_line(
