@@ -1,23 +1,26 @@
 -- One record of a sheet: what the reader makes of it, from its head, its body and the numbers of what is open.
 use mathlib.Core.Path.{_≡_, refl, sym, ap, _∙_}
 use mathlib.Core.List.{List, []}
-use mathlib.Core.Bool.{Bool, true, false}
+use mathlib.Core.Bool.{Bool, true, false, _&&_}
 use mathlib.Core.Option.{Option, none, some}
-use Prim.Native.Nat.{ℕ, _+_, _-_, _<_, _≤_}
+use Prim.Native.Nat.{ℕ, zero, suc, _+_, _-_, _<_, _≤_}
 use native.Mathlib.Nat.{add-sub-cancel-left}
 use native.Mathlib.Omega.{arith}
-use lib.ListN.{length, getD, take, drop, length-drop}
+use lib.ListN.{length, getD, take, drop, length-drop, replicate}
 use lib.Seq.{length-take-le}
 use lib.Dec.{leb}
-use Rattle.meaning.specs.Record.{Kind, workKind, loopKind, endKind, choiceKind, nextArmKind, kindOf, bodyLength, recordLength, kind, decodeRecord, Open, fieldsInRange, openAfter}
+use Rattle.meaning.specs.Limits.{costLimit, strideLimit}
+use Rattle.meaning.specs.Form.{formInRange}
+use Rattle.meaning.specs.Record.{Kind, workKind, loopKind, endKind, choiceKind, nextArmKind, kindOf, bodyLength, recordLength, kind, Record, workRecord, loopRecord, endRecord, choiceRecord, nextArmRecord, decodeRecord, Open, openLoop, loopDepth, fieldsInRange, openAfter}
 use Rattle.meaning.specs.Reader.{Result, ok, refused, require, orRefuse, andThen, Accepted, accept, readRecord, Head, headOf, headAt}
 use Rattle.meaning.proofs.Logic.{refused-is-not-ok}
 use Rattle.meaning.proofs.Accepted.{kind-decodeRecord}
 use Rattle.meaning.proofs.RoundTrip.{readRecord-accept}
 use Rattle.sheet.specs.declared.nesting.Nesting.{Nesting}
 use Rattle.sheet.specs.declared.nesting.Passed.{Passed}
-use Rattle.sheet.specs.Nestings.{nestingOf, fieldsPassAs, fieldsPass, openAfterAs, openAfterKind, isThere, mayStand}
-use Rattle.sheet.specs.Answers.{stepOf}
+use Rattle.sheet.specs.Nestings.{nestingOf, fieldsPassAs, fieldsPass, openAfterAs, openAfterKind, isThere, mayStand, nestingAfter, mayStandIn}
+use Rattle.sheet.specs.Answers.{stepOf, acceptIn}
+use Rattle.sheet.proofs.Openings.{depth-is, after-is, may-stand-is}
 use Rattle.sheet.proofs.Heads.{head-there, Stands}
 
 -- ---- refusals 3 and 5
@@ -36,15 +39,15 @@ module _ (at : ℕ) (os : List Open) (kindByte : ℕ) (k : Kind) (named : kindOf
   result = stepOf (accept at os (decodeRecord k body))
 
   -- the tests by the kind's number are those of the record
-  pub fields-by-number : fieldsInRange os (decodeRecord k body) ≡ fieldsPass os kindByte body
+  fields-by-number : fieldsInRange os (decodeRecord k body) ≡ fieldsPass os kindByte body
   unfolding fieldsPass fieldsPassAs
   fields-by-number = sym (ap (fieldsPassAs os body) named)
 
-  pub opens-by-number : openAfter os (decodeRecord k body) ≡ openAfterKind os kindByte
+  opens-by-number : openAfter os (decodeRecord k body) ≡ openAfterKind os kindByte
   unfolding openAfterKind openAfterAs
   opens-by-number = open-by-kind os k body ∙ sym (ap (openAfterAs os) named)
 
-  pub refused-3 : false ≡ fieldsPass os kindByte body → refused 3 at ≡ result
+  refused-3 : false ≡ fieldsPass os kindByte body → refused 3 at ≡ result
   unfolding accept require stepOf
   refused-3 f =
       sym (ap (λ (b : Bool). stepOf (require b 3 at (andThen (orRefuse (openAfter os (decodeRecord k body)) 5 at) λ after. ok (record { accepted = decodeRecord k body; after = after })))) (fields-by-number ∙ sym f))
@@ -56,7 +59,7 @@ module _ (at : ℕ) (os : List Open) (kindByte : ℕ) (k : Kind) (named : kindOf
     with-open o e =
         λ i. require ((fields-by-number ∙ sym f) i) 3 at (andThen (orRefuse ((opens-by-number ∙ e) i) 5 at) λ after. ok (record { accepted = decodeRecord k body; after = after }))
 
-    pub refused-5 : false ≡ mayStand os kindByte → refused 5 at ≡ result
+    refused-5 : false ≡ mayStand os kindByte → refused 5 at ≡ result
     unfolding mayStand isThere
     refused-5 m = go (openAfterKind os kindByte) refl
       where
@@ -64,7 +67,7 @@ module _ (at : ℕ) (os : List Open) (kindByte : ℕ) (k : Kind) (named : kindOf
         go (some us) e = absurd (let z : false ≡ true = m ∙ ap isThere e in let w : _≡_ {A = ℕ} 0 1 = cc in omega arith)
         go none e = unfold andThen orRefuse stepOf in sym (ap stepOf (with-open none e))
 
-    pub accepted-step : true ≡ mayStand os kindByte → (n : Nesting) → ((us : List Open) → openAfterKind os kindByte ≡ some us → n ≡ nestingOf us) → length body ≡ bodyLength k →
+    accepted-step : true ≡ mayStand os kindByte → (n : Nesting) → ((us : List Open) → openAfterKind os kindByte ≡ some us → n ≡ nestingOf us) → length body ≡ bodyLength k →
         ok (record { length = 1 + length body; after = n }) ≡ result
     unfolding mayStand isThere
     accepted-step m n after long = go (openAfterKind os kindByte) refl
@@ -73,6 +76,62 @@ module _ (at : ℕ) (os : List Open) (kindByte : ℕ) (k : Kind) (named : kindOf
         go none e = absurd (let z : true ≡ false = m ∙ ap isThere e in let w : _≡_ {A = ℕ} 0 1 = cc in omega arith)
         go (some us) e = unfold andThen orRefuse stepOf recordLength in
             (λ i. ok (record { length = 1 + (long ∙ ap bodyLength (sym (kind-decodeRecord k body))) i; after = after us e i })) ∙ sym (ap stepOf (with-open (some us) e))
+
+-- the same by the three numbers
+
+pub loops-around : (n : ℕ) → loopDepth (replicate n openLoop) ≡ n
+unfolding loopDepth
+loops-around zero = refl
+loops-around (suc n) = ap suc (loops-around n)
+
+-- to the fields only the number of loops around the record matters
+range-by-depth : (os us : List Open) → loopDepth os ≡ loopDepth us → (r : Record) → fieldsInRange os r ≡ fieldsInRange us r
+unfolding fieldsInRange
+range-by-depth os us e (workRecord least most) = refl
+range-by-depth os us e (loopRecord l) =
+    λ i. leb (l .start) costLimit && leb (l .step) costLimit && leb 1 (l .stride) && leb (l .stride) strideLimit && formInRange (e i) (l .lower) && formInRange (e i) (l .upper)
+range-by-depth os us e endRecord = refl
+range-by-depth os us e choiceRecord = refl
+range-by-depth os us e nextArmRecord = refl
+
+module _ (at : ℕ) (here : Nesting) (kindByte : ℕ) (body : List ℕ) where
+  abbrev fields : Bool
+  fields = fieldsPass (replicate (here .depth) openLoop) kindByte body
+
+  abbrev passed : Result Passed
+  passed = ok (record { length = 1 + length body; after = nestingAfter here kindByte })
+
+  pub number-3 : false ≡ fields → refused 3 at ≡ acceptIn at here kindByte body
+  unfolding acceptIn require
+  number-3 f = ap (λ (b : Bool). require b 3 at (require (mayStandIn here kindByte) 5 at passed)) f
+
+  pub number-5 : true ≡ fields → false ≡ mayStandIn here kindByte → refused 5 at ≡ acceptIn at here kindByte body
+  unfolding acceptIn require
+  number-5 f m = λ i. require (f i) 3 at (require (m i) 5 at passed)
+
+  pub number-none : true ≡ fields → true ≡ mayStandIn here kindByte → (n : Nesting) → n ≡ nestingAfter here kindByte →
+      ok (record { length = 1 + length body; after = n }) ≡ acceptIn at here kindByte body
+  unfolding acceptIn require
+  number-none f m n a = λ i. require (f i) 3 at (require (m i) 5 at (ok (record { length = 1 + length body; after = a i })))
+
+  by-depth : (os : List Open) (k : Kind) → here ≡ nestingOf os → kindOf kindByte ≡ some k → fields ≡ fieldsPass os kindByte body
+  unfolding fieldsPass fieldsPassAs
+  by-depth os k e named =
+      ap (fieldsPassAs (replicate (here .depth) openLoop) body) named
+      ∙ range-by-depth (replicate (here .depth) openLoop) os (loops-around (here .depth) ∙ depth-is here os e) (decodeRecord k body)
+      ∙ sym (ap (fieldsPassAs os body) named)
+
+  -- where the numbers are those of what is open, it is what the meaning accepts
+  pub accept-is : (os : List Open) (k : Kind) → here ≡ nestingOf os → kindOf kindByte ≡ some k → length body ≡ bodyLength k →
+      acceptIn at here kindByte body ≡ stepOf (accept at os (decodeRecord k body))
+  unfolding acceptIn require
+  accept-is os k e named long = go fields (by-depth os k e named) (mayStandIn here kindByte) (may-stand-is here os e kindByte)
+    where
+      go : (f : Bool) → f ≡ fieldsPass os kindByte body → (m : Bool) → m ≡ mayStand os kindByte →
+          require f 3 at (require m 5 at passed) ≡ stepOf (accept at os (decodeRecord k body))
+      go false f m n = refused-3 at os kindByte k named body f
+      go true f false n = refused-5 at os kindByte k named body f n
+      go true f true n = accepted-step at os kindByte k named body f n (nestingAfter here kindByte) (λ us a. after-is here os us e kindByte a) long
 
 -- ---- refusals 2 and 1
 

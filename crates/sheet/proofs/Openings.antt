@@ -2,18 +2,18 @@
 use mathlib.Core.Path.{_≡_, refl, sym, ap, _∙_}
 use mathlib.Core.List.{List, [], _∷_}
 use mathlib.Core.Logic.{_⊎_, ⊎-elim}
-use mathlib.Core.Bool.{Bool, true, false, not, cond, _&&_, and-false}
+use mathlib.Core.Bool.{Bool, true, false, not, cond, _&&_, _||_, and-false, or-true}
 use mathlib.Core.Option.{Option, none, some}
 use Prim.Native.Nat.{ℕ, zero, suc, _+_, _*_, _-_, _/_, _%_, _^_, _<_, _≤_}
 use native.Mathlib.Nat.{pow-suc}
 use native.Mathlib.Omega.{arith}
-use borrow.Author.Tests.{ltb-true, ne-eqb, eq-eqb}
+use borrow.Author.Tests.{ltb-true, lt-ltb, le-ltb, le-leb, lt-leb, ne-eqb, eq-eqb}
 use lib.ListN.{length}
-use lib.Dec.{T, ltb, eqb}
+use lib.Dec.{T, leb, ltb, eqb}
 use Rattle.meaning.specs.Record.{Kind, kindOf, decodeRecord, Open, openLoop, openChoice, loopDepth, openAfter}
 use Rattle.meaning.proofs.Logic.{T-and, T→true}
 use Rattle.sheet.specs.declared.nesting.Nesting.{Nesting}
-use Rattle.sheet.specs.Nestings.{loopDigit, loopBits, nestingOf, openAfterAs, openAfterKind, isThere, mayStand}
+use Rattle.sheet.specs.Nestings.{loopDigit, loopBits, nestingOf, openAfterAs, openAfterKind, isThere, mayStand, openedNesting, closedNesting, nestingAfterAs, nestingAfter, mayStandInAs, mayStandIn}
 use Rattle.sheet.proofs.ByKind.{by-kind}
 
 -- ---- the numbers of what is open
@@ -23,11 +23,11 @@ unfolding loopDigit
 digit-small openLoop = omega arith
 digit-small openChoice = omega arith
 
-pub digit-loop : loopDigit openLoop ≡ 1
+digit-loop : loopDigit openLoop ≡ 1
 unfolding loopDigit
 digit-loop = refl
 
-pub digit-choice : loopDigit openChoice ≡ 0
+digit-choice : loopDigit openChoice ≡ 0
 unfolding loopDigit
 digit-choice = refl
 
@@ -66,8 +66,22 @@ unfolding nestingOf
 nesting-equal n os p q r = λ i. record { size = p i; depth = q i; loops = r i }
 
 -- one more open record
+module _ (n : Nesting) (digit : ℕ) where
+  abbrev more : Nesting
+  more = record { size = n .size + 1; depth = n .depth + digit; loops = n .loops % 128 * 2 + digit }
+
+  pub opened-same : (8 ≤ n .size) ⊎ (8 ≤ n .depth) → n ≡ openedNesting n digit
+  unfolding openedNesting
+  opened-same =
+      ⊎-elim (λ h. sym (λ i. cond (le-leb 8 (n .size) h i || leb 8 (n .depth)) n more))
+      (λ h. sym ((λ i. cond (leb 8 (n .size) || le-leb 8 (n .depth) h i) n more) ∙ ap (λ (b : Bool). cond b n more) (or-true (leb 8 (n .size)))))
+
+  pub opened-one : n .size < 8 → n .depth < 8 → more ≡ openedNesting n digit
+  unfolding openedNesting
+  opened-one h d = sym (λ i. cond (lt-leb 8 (n .size) h i || lt-leb 8 (n .depth) d i) n more)
+
 module _ (n : Nesting) (digit : ℕ) (os : List Open) (o : Open) (e : n ≡ nestingOf os) (d : loopDigit o ≡ digit) (room : length os < 8) where
-  pub opened-more : record { size = n .size + 1; depth = n .depth + digit; loops = n .loops % 128 * 2 + digit } ≡ nestingOf (o ∷ os)
+  opened-more : more n digit ≡ nestingOf (o ∷ os)
   unfolding loopBits
   opened-more =
       nesting-equal _ (o ∷ os)
@@ -75,17 +89,30 @@ module _ (n : Nesting) (digit : ℕ) (os : List Open) (o : Open) (e : n ≡ nest
       (omega (arith, depth-is n os e, depth-one-more o os))
       (omega (arith, loops-is n os e, bits-below 7 os (omega arith)))
 
-  pub opened-full : {X : Type 0} → (8 ≤ n .size) ⊎ (8 ≤ n .depth) → X
-  opened-full h =
-      absurd (⊎-elim (λ a. omega (arith, size-is n os e)) (λ a. omega (arith, depth-is n os e, depth-at-most os)) h)
+  opened-is : openedNesting n digit ≡ nestingOf (o ∷ os)
+  opened-is = sym (opened-one n digit (omega (arith, size-is n os e)) (omega (arith, depth-is n os e, depth-at-most os))) ∙ opened-more
 
 -- the innermost closed
+module _ (n : Nesting) where
+  abbrev fewer : Nesting
+  fewer = record { size = n .size - 1; depth = n .depth - n .loops % 2; loops = n .loops / 2 }
+
+  pub closed-same : (n .size ≡ 0) ⊎ (n .depth < n .loops % 2) → n ≡ closedNesting n
+  unfolding closedNesting
+  closed-same =
+      ⊎-elim (λ h. sym (λ i. cond (eq-eqb (n .size) 0 h i || ltb (n .depth) (n .loops % 2)) n fewer))
+      (λ h. sym ((λ i. cond (eqb (n .size) 0 || lt-ltb (n .depth) (n .loops % 2) h i) n fewer) ∙ ap (λ (b : Bool). cond b n fewer) (or-true (eqb (n .size) 0))))
+
+  pub closed-one : (n .size ≡ 0 → ⊥) → n .loops % 2 ≤ n .depth → fewer ≡ closedNesting n
+  unfolding closedNesting
+  closed-one h d = sym (λ i. cond (ne-eqb (n .size) 0 h i || le-ltb (n .depth) (n .loops % 2) d i) n fewer)
+
 module _ (n : Nesting) (os : List Open) (o : Open) (e : n ≡ nestingOf (o ∷ os)) where
   last-digit : n .loops % 2 ≡ loopDigit o
   unfolding loopBits
   last-digit = omega (arith, loops-is n (o ∷ os) e, digit-small o)
 
-  pub closed-less : record { size = n .size - 1; depth = n .depth - n .loops % 2; loops = n .loops / 2 } ≡ nestingOf os
+  closed-less : fewer n ≡ nestingOf os
   unfolding loopBits
   closed-less =
       nesting-equal _ os
@@ -93,9 +120,9 @@ module _ (n : Nesting) (os : List Open) (o : Open) (e : n ≡ nestingOf (o ∷ o
       (omega (arith, depth-is n (o ∷ os) e, depth-one-more o os, last-digit))
       (omega (arith, loops-is n (o ∷ os) e, digit-small o))
 
-  pub closed-empty : {X : Type 0} → (n .size ≡ 0) ⊎ (n .depth < n .loops % 2) → X
-  closed-empty h =
-      absurd (⊎-elim (λ a. omega (arith, size-is n (o ∷ os) e)) (λ a. omega (arith, depth-is n (o ∷ os) e, depth-one-more o os, last-digit)) h)
+  closed-is : closedNesting n ≡ nestingOf os
+  closed-is =
+      sym (closed-one n (λ z. omega (arith, size-is n (o ∷ os) e)) (omega (arith, depth-is n (o ∷ os) e, depth-one-more o os, last-digit))) ∙ closed-less
 
 -- ---- what is open after a record
 
@@ -110,22 +137,22 @@ opened-only true os us e = (tt, some-same e)
 opened-only false os us e = none-some e
 
 module _ (os us : List Open) where
-  pub after-loop : (kind : ℕ) → kind ≡ 2 → openAfterKind os kind ≡ some us → (length os < 8) × (openLoop ∷ os ≡ us)
+  after-loop : openAfterKind os 2 ≡ some us → (length os < 8) × (openLoop ∷ os ≡ us)
   unfolding openAfterKind openAfterAs kindOf decodeRecord openAfter
-  after-loop kind k e =
-      let a = opened-only (ltb (loopDepth os) 4 && ltb (length os) 8) (openLoop ∷ os) us (ap (openAfterKind os) (sym k) ∙ e) in
+  after-loop e =
+      let a = opened-only (ltb (loopDepth os) 4 && ltb (length os) 8) (openLoop ∷ os) us e in
       (ltb-true (length os) 8 (T→true (ltb (length os) 8) (T-and (ltb (loopDepth os) 4) (ltb (length os) 8) (a .0) .1)), a .1)
 
-  pub after-choice : (kind : ℕ) → kind ≡ 4 → openAfterKind os kind ≡ some us → (length os < 8) × (openChoice ∷ os ≡ us)
+  after-choice : openAfterKind os 4 ≡ some us → (length os < 8) × (openChoice ∷ os ≡ us)
   unfolding openAfterKind openAfterAs kindOf decodeRecord openAfter
-  after-choice kind k e =
-      let a = opened-only (ltb (length os) 8) (openChoice ∷ os) us (ap (openAfterKind os) (sym k) ∙ e) in
+  after-choice e =
+      let a = opened-only (ltb (length os) 8) (openChoice ∷ os) us e in
       (ltb-true (length os) 8 (T→true (ltb (length os) 8) (a .0)), a .1)
 
-pub after-end : (os us : List Open) (kind : ℕ) → kind ≡ 3 → openAfterKind os kind ≡ some us → (o : Open) × (os ≡ o ∷ us)
+after-end : (os us : List Open) → openAfterKind os 3 ≡ some us → (o : Open) × (os ≡ o ∷ us)
 unfolding openAfterKind openAfterAs kindOf decodeRecord openAfter
-after-end [] us kind k e = none-some (ap (openAfterKind []) (sym k) ∙ e)
-after-end (o ∷ os) us kind k e = (o, ap (λ (x : List Open). o ∷ x) (some-same (ap (openAfterKind (o ∷ os)) (sym k) ∙ e)))
+after-end [] us e = none-some e
+after-end (o ∷ os) us e = (o, ap (λ (x : List Open). o ∷ x) (some-same e))
 
 after-arm : (os us : List Open) → openAfterKind os 5 ≡ some us → os ≡ us
 unfolding openAfterKind openAfterAs kindOf decodeRecord openAfter
@@ -133,16 +160,43 @@ after-arm [] us e = none-some e
 after-arm (openLoop ∷ os) us e = none-some e
 after-arm (openChoice ∷ os) us e = some-same e
 
-pub after-other : (os us : List Open) (kind : ℕ) → (kind ≡ 2 → ⊥) → (kind ≡ 4 → ⊥) → (kind ≡ 3 → ⊥) → openAfterKind os kind ≡ some us → os ≡ us
-unfolding openAfterKind openAfterAs kindOf decodeRecord openAfter
-after-other os us =
-    by-kind (λ (n : ℕ) (k : Option Kind). (n ≡ 2 → ⊥) → (n ≡ 4 → ⊥) → (n ≡ 3 → ⊥) → openAfterAs os k ≡ some us → os ≡ us)
-    (λ _ _ _ e. some-same e)
-    (λ h _ _ e. absurd (h refl))
-    (λ _ _ h e. absurd (h refl))
-    (λ _ h _ e. absurd (h refl))
-    (λ _ _ _ e. after-arm os us e)
-    (λ n _ _ _ _ e. some-same e)
+-- the numbers after a record are those of what is open after it
+pub after-is : (n : Nesting) (os us : List Open) → n ≡ nestingOf os → (kind : ℕ) → openAfterKind os kind ≡ some us → nestingAfter n kind ≡ nestingOf us
+unfolding nestingAfter nestingAfterAs openAfterKind openAfterAs kindOf decodeRecord openAfter
+after-is n os us e =
+    by-kind (λ (m : ℕ) (k : Option Kind). openAfterAs os k ≡ some us → nestingAfterAs n k ≡ nestingOf us)
+    (λ a. e ∙ ap nestingOf (some-same a))
+    (λ a. let h = after-loop os us a in opened-is n 1 os openLoop e digit-loop (h .0) ∙ ap nestingOf (h .1))
+    (λ a. let h = after-end os us a in closed-is n us (h .0) (e ∙ ap nestingOf (h .1)))
+    (λ a. let h = after-choice os us a in opened-is n 0 os openChoice e digit-choice (h .0) ∙ ap nestingOf (h .1))
+    (λ a. e ∙ ap nestingOf (after-arm os us a))
+    (λ m _ a. e ∙ ap nestingOf (some-same a))
+
+-- the numbers after a record, by the number of its kind
+module _ (n : Nesting) (kind : ℕ) where
+  pub after-loop-number : kind ≡ 2 → openedNesting n 1 ≡ nestingAfter n kind
+  unfolding nestingAfter nestingAfterAs kindOf
+  after-loop-number k = ap (nestingAfter n) (sym k)
+
+  pub after-choice-number : kind ≡ 4 → openedNesting n 0 ≡ nestingAfter n kind
+  unfolding nestingAfter nestingAfterAs kindOf
+  after-choice-number k = ap (nestingAfter n) (sym k)
+
+  pub after-end-number : kind ≡ 3 → closedNesting n ≡ nestingAfter n kind
+  unfolding nestingAfter nestingAfterAs kindOf
+  after-end-number k = ap (nestingAfter n) (sym k)
+
+  pub after-other-number : (kind ≡ 2 → ⊥) → (kind ≡ 4 → ⊥) → (kind ≡ 3 → ⊥) → n ≡ nestingAfter n kind
+  unfolding nestingAfter nestingAfterAs
+  after-other-number =
+      by-kind (λ (m : ℕ) (k : Option Kind). (m ≡ 2 → ⊥) → (m ≡ 4 → ⊥) → (m ≡ 3 → ⊥) → n ≡ nestingAfterAs n k)
+      (λ _ _ _. refl)
+      (λ h _ _. absurd (h refl))
+      (λ _ _ h. absurd (h refl))
+      (λ _ h _. absurd (h refl))
+      (λ _ _ _. refl)
+      (λ m _ _ _ _. refl)
+      kind
 
 -- ---- whether a record may stand
 
@@ -166,33 +220,44 @@ may-arm (openChoice ∷ os) =
     let even : (2 * loopBits os + 0) % 2 ≡ 0 = omega arith in
     λ i. not (ne-eqb (suc (length os)) 0 (λ e. omega arith) i) && eq-eqb ((2 * loopBits os + 0) % 2) 0 even i
 
-module _ (n : Nesting) (os : List Open) (e : n ≡ nestingOf os) (kind : ℕ) where
-  pub allows-loop : kind ≡ 2 → ltb (n .depth) 4 && ltb (n .size) 8 ≡ mayStand os kind
-  unfolding mayStand openAfterKind openAfterAs kindOf decodeRecord openAfter
-  allows-loop k =
-      (λ i. ltb (depth-is n os e i) 4 && ltb (size-is n os e i) 8)
-      ∙ sym (there-if (ltb (loopDepth os) 4 && ltb (length os) 8) (openLoop ∷ os))
-      ∙ ap (mayStand os) (sym k)
+-- by the numbers it may stand where it may by what is open
+pub may-stand-is : (n : Nesting) (os : List Open) → n ≡ nestingOf os → (kind : ℕ) → mayStandIn n kind ≡ mayStand os kind
+unfolding mayStandIn mayStandInAs mayStand isThere openAfterKind openAfterAs kindOf decodeRecord openAfter
+may-stand-is n os e =
+    by-kind (λ (m : ℕ) (k : Option Kind). mayStandInAs n k ≡ isThere (openAfterAs os k))
+    refl
+    ((λ i. ltb (depth-is n os e i) 4 && ltb (size-is n os e i) 8) ∙ sym (there-if (ltb (loopDepth os) 4 && ltb (length os) 8) (openLoop ∷ os)))
+    (ap (λ (x : ℕ). not (eqb x 0)) (size-is n os e) ∙ may-end os)
+    (ap (λ (x : ℕ). ltb x 8) (size-is n os e) ∙ sym (there-if (ltb (length os) 8) (openChoice ∷ os)))
+    ((λ i. not (eqb (size-is n os e i) 0) && eqb (loops-is n os e i % 2) 0) ∙ may-arm os)
+    (λ m _. refl)
 
-  pub allows-choice : kind ≡ 4 → ltb (n .size) 8 ≡ mayStand os kind
-  unfolding mayStand openAfterKind openAfterAs kindOf decodeRecord openAfter
-  allows-choice k =
-      ap (λ (x : ℕ). ltb x 8) (size-is n os e) ∙ sym (there-if (ltb (length os) 8) (openChoice ∷ os)) ∙ ap (mayStand os) (sym k)
+-- whether it may stand, by the number of its kind
+module _ (n : Nesting) (kind : ℕ) where
+  pub allows-loop : kind ≡ 2 → ltb (n .depth) 4 && ltb (n .size) 8 ≡ mayStandIn n kind
+  unfolding mayStandIn mayStandInAs kindOf
+  allows-loop k = ap (mayStandIn n) (sym k)
 
-  pub allows-end : kind ≡ 3 → not (eqb (n .size) 0) ≡ mayStand os kind
-  allows-end k = ap (λ (x : ℕ). not (eqb x 0)) (size-is n os e) ∙ may-end os ∙ ap (mayStand os) (sym k)
+  pub allows-choice : kind ≡ 4 → ltb (n .size) 8 ≡ mayStandIn n kind
+  unfolding mayStandIn mayStandInAs kindOf
+  allows-choice k = ap (mayStandIn n) (sym k)
 
-  pub allows-arm : kind ≡ 5 → not (eqb (n .size) 0) && eqb (n .loops % 2) 0 ≡ mayStand os kind
-  allows-arm k =
-      (λ i. not (eqb (size-is n os e i) 0) && eqb (loops-is n os e i % 2) 0) ∙ may-arm os ∙ ap (mayStand os) (sym k)
+  pub allows-end : kind ≡ 3 → not (eqb (n .size) 0) ≡ mayStandIn n kind
+  unfolding mayStandIn mayStandInAs kindOf
+  allows-end k = ap (mayStandIn n) (sym k)
 
-pub allows-other : (os : List Open) (kind : ℕ) → (kind ≡ 2 → ⊥) → (kind ≡ 4 → ⊥) → (kind ≡ 3 → ⊥) → (kind ≡ 5 → ⊥) → true ≡ mayStand os kind
-unfolding mayStand isThere openAfterKind openAfterAs decodeRecord openAfter
-allows-other os =
-    by-kind (λ (n : ℕ) (k : Option Kind). (n ≡ 2 → ⊥) → (n ≡ 4 → ⊥) → (n ≡ 3 → ⊥) → (n ≡ 5 → ⊥) → true ≡ isThere (openAfterAs os k))
-    (λ _ _ _ _. refl)
-    (λ h _ _ _. absurd (h refl))
-    (λ _ _ h _. absurd (h refl))
-    (λ _ h _ _. absurd (h refl))
-    (λ _ _ _ h. absurd (h refl))
-    (λ n _ _ _ _ _. refl)
+  pub allows-arm : kind ≡ 5 → not (eqb (n .size) 0) && eqb (n .loops % 2) 0 ≡ mayStandIn n kind
+  unfolding mayStandIn mayStandInAs kindOf
+  allows-arm k = ap (mayStandIn n) (sym k)
+
+  pub allows-other : (kind ≡ 2 → ⊥) → (kind ≡ 4 → ⊥) → (kind ≡ 3 → ⊥) → (kind ≡ 5 → ⊥) → true ≡ mayStandIn n kind
+  unfolding mayStandIn mayStandInAs
+  allows-other =
+      by-kind (λ (m : ℕ) (k : Option Kind). (m ≡ 2 → ⊥) → (m ≡ 4 → ⊥) → (m ≡ 3 → ⊥) → (m ≡ 5 → ⊥) → true ≡ mayStandInAs n k)
+      (λ _ _ _ _. refl)
+      (λ h _ _ _. absurd (h refl))
+      (λ _ _ h _. absurd (h refl))
+      (λ _ h _ _. absurd (h refl))
+      (λ _ _ _ h. absurd (h refl))
+      (λ m _ _ _ _ _. refl)
+      kind

@@ -183,7 +183,7 @@ module _ (os : List Open) (depth : ℕ) (deep : loopDepth os ≡ depth) (body : 
       ⊎-elim (λ a. omega (arith, leb→le start 4095 (t5 .0))) (λ a. omega (arith, leb→le step 4095 (t5 .1))) h)
       ∙ loop-fits s refl
 
-  pub stride-off : (stride : ℕ) → stride ≡ unsigned16 body 4 → (stride ≡ 0) ⊎ (1000 < stride) → false ≡ fieldsInRange os (decodeRecord loopKind body)
+  pub stride-off : (stride : ℕ) → stride ≡ unsigned16 body 4 → (stride < 1) ⊎ (1000 < stride) → false ≡ fieldsInRange os (decodeRecord loopKind body)
   stride-off s r h =
       let b : Bool = costs && leb 1 s && leb s 1000 && enclosed body 8 depth && enclosed body 17 depth in
       refuted b

@@ -1,21 +1,22 @@
 -- The number and the values that document 01 gives to each case of the answers.
 use mathlib.Core.List.{List, _++_, map}
 use mathlib.Core.Option.{Option, none, some}
-use Prim.Native.Nat.{ℕ, _-_}
+use Prim.Native.Nat.{ℕ, _+_, _-_}
 use lib.ListN.{length, replicate}
 use Rattle.meaning.specs.Record as M
-use Rattle.meaning.specs.Record.{recordLength}
-use Rattle.meaning.specs.Reader.{Result, ok, refused, Accepted, Head}
+use Rattle.meaning.specs.Record.{recordLength, openLoop}
+use Rattle.meaning.specs.Reader.{Result, ok, refused, require, Accepted, Head}
 use Rattle.sheet.specs.declared.head.HeadAnswer.{HeadAnswer}
 use Rattle.sheet.specs.declared.head.HeadAnswer.the-variants as head
 use Rattle.sheet.specs.declared.reader.ReadAnswer.{ReadAnswer}
 use Rattle.sheet.specs.declared.reader.ReadAnswer.the-variants as read
+use Rattle.sheet.specs.declared.nesting.Nesting.{Nesting}
 use Rattle.sheet.specs.declared.nesting.Passed.{Passed}
 use Rattle.sheet.specs.declared.nesting.Step.{Step}
 use Rattle.sheet.specs.declared.nesting.Step.the-variants as step
 use Rattle.sheet.specs.declared.record.Record.{Record}
 use Rattle.sheet.specs.View.{blankRecord, recordIn}
-use Rattle.sheet.specs.Nestings.{nestingOf}
+use Rattle.sheet.specs.Nestings.{nestingOf, fieldsPass, nestingAfter, mayStandIn}
 
 -- the record reader's answer: a head, the end, or a refusal with its number and its place
 abbrev pub headResult : HeadAnswer → Result (Option Head)
@@ -32,6 +33,13 @@ stepResult (step.Refused r) = refused (r .number) (r .offset)
 unfoldable pub stepOf : Result Accepted → Result Passed
 stepOf (ok a) = ok (record { length = recordLength (a .accepted); after = nestingOf (a .after) })
 stepOf (refused number place) = refused number place
+
+-- refusals 3 and 5, in this order, of a record that would stand at `at`, for any three numbers of what is open: to the fields only the number of
+-- loops around the record matters
+unfoldable pub acceptIn : ℕ → Nesting → ℕ → List ℕ → Result Passed
+acceptIn at here kind body =
+    require (fieldsPass (replicate (here .depth) openLoop) kind body) 3 at
+    (require (mayStandIn here kind) 5 at (ok (record { length = 1 + length body; after = nestingAfter here kind })))
 
 -- the reader's answer: a count, or a refusal
 abbrev pub countResult : ReadAnswer → Result ℕ

@@ -2,14 +2,14 @@
 ghost use mathlib.Core.Path.{_≡_};
 ghost use mathlib.Core.List.{List, [], _∷_};
 ghost use mathlib.Core.Option.{some};
-ghost use Prim.Native.Nat.{_+_, _≤_, _<_};
+ghost use Prim.Native.Nat.{_+_, _≤_};
 ghost use lib.ListN.{length, drop};
 ghost use Rattle.meaning.specs.Number.{signed8};
 ghost use Rattle.meaning.specs.Form.{allZero};
 ghost use Rattle.meaning.specs.Record.{Kind, workKind, loopKind, kindOf, bodyLength, decodeRecord, Open, loopDepth, fieldsInRange};
 ghost use Rattle.meaning.specs.Reader.{accept};
-ghost use Rattle.sheet.specs.Nestings.{loopDigit, nestingOf, fieldsPass, mayStand, openAfterKind};
-ghost use Rattle.sheet.specs.Answers.{stepResult, stepOf};
+ghost use Rattle.sheet.specs.Nestings.{nestingOf, fieldsPass, openAfterKind, openedNesting, closedNesting, nestingAfter, mayStandIn};
+ghost use Rattle.sheet.specs.Answers.{stepResult, stepOf, acceptIn};
 use crate::loops::Loop;
 use crate::record::CHOICE;
 use crate::record::END;
@@ -80,7 +80,7 @@ fn loop_in_range(body: &[u8], depth: usize) -> bool
         return false;
     }
     let stride = unsigned16_at(body, 4);
-    if stride == 0 || Loop::MAX_STRIDE < stride {
+    if stride < Loop::MIN_STRIDE || Loop::MAX_STRIDE < stride {
         return false;
     }
     factors_enclosed(body, 8, depth) && factors_enclosed(body, 17, depth)
@@ -112,7 +112,7 @@ impl Nesting {
 
     // 5: whether a record of this kind may stand here.
     fn allows(self, kind: u8) -> bool
-        ensures { λ r. ⌜ ((os : List Open) → self ≡ nestingOf os → r ≡ mayStand os kind) ⌝ }
+        ensures { λ r. ⌜ r ≡ mayStandIn self kind ⌝ }
     {
         if kind == LOOP {
             return self.depth < MAX_DEPTH && self.size < MAX_OPEN;
@@ -129,9 +129,10 @@ impl Nesting {
         true
     }
 
-    // What is open after a record that may stand here.
+    // What is open after a record; `open`: after one that may stand here, where the three numbers are those of a list of open records.
     pub fn after(self, kind: u8) -> Nesting
-        ensures { λ r. ⌜ ((os us : List Open) → self ≡ nestingOf os → openAfterKind os kind ≡ some us → r ≡ nestingOf us) ⌝ }
+        ensures numbers { λ r. ⌜ r ≡ nestingAfter self kind ⌝ }
+        ensures open { λ r. ⌜ ((os us : List Open) → self ≡ nestingOf os → openAfterKind os kind ≡ some us → r ≡ nestingOf us) ⌝ }
     {
         if kind == LOOP {
             return self.opened(1);
@@ -148,7 +149,7 @@ impl Nesting {
     // One more open record: a loop's digit is 1, a choice's 0. Where another may open, at most seven are open, so `% 128` loses no digit.
     fn opened(self, digit: u64) -> Nesting
         requires { ⌜ digit ≤ 1 ⌝ }
-        ensures { λ r. ⌜ ((os : List Open) (o : Open) → self ≡ nestingOf os → loopDigit o ≡ digit → length os < 8 → r ≡ nestingOf (o ∷ os)) ⌝ }
+        ensures { λ r. ⌜ r ≡ openedNesting self digit ⌝ }
     {
         if MAX_OPEN <= self.size || MAX_OPEN <= self.depth {
             return self;
@@ -162,7 +163,7 @@ impl Nesting {
 
     // The innermost open record closed; where nothing is open, the same.
     fn closed(self) -> Nesting
-        ensures { λ r. ⌜ ((os : List Open) (o : Open) → self ≡ nestingOf (o ∷ os) → r ≡ nestingOf os) ⌝ }
+        ensures { λ r. ⌜ r ≡ closedNesting self ⌝ }
     {
         let digit = (self.loops % 2) as usize;
         if self.size == 0 || self.depth < digit {
@@ -176,9 +177,10 @@ impl Nesting {
     }
 }
 
-// Refusals 3 and 5, in this order, of a record that would stand at an offset where `here` is open.
+// Refusals 3 and 5, in this order, of a record that would stand at an offset where `here` is open; `records`: as the meaning accepts it, where the three numbers are those of a list of open records.
 pub fn accept_record(at: usize, here: Nesting, kind: u8, body: &[u8]) -> Step
-    ensures { λ r. ⌜ ((os : List Open) (k : Kind) → here ≡ nestingOf os → kindOf kind ≡ some k → length (now (body .entry)) ≡ bodyLength k → stepResult r ≡ stepOf (accept at os (decodeRecord k (now (body .entry))))) ⌝ }
+    ensures numbers { λ r. ⌜ stepResult r ≡ acceptIn at here kind (now (body .entry)) ⌝ }
+    ensures records { λ r. ⌜ ((os : List Open) (k : Kind) → here ≡ nestingOf os → kindOf kind ≡ some k → length (now (body .entry)) ≡ bodyLength k → stepResult r ≡ stepOf (accept at os (decodeRecord k (now (body .entry))))) ⌝ }
 {
     if !fields_in_range(kind, body, here.depth) {
         return Step::Refused(Refusal {

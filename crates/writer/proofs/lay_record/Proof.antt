@@ -77,7 +77,7 @@ returns-3 c =
     let body = c .before .before .before .before .before .before .before .before .body-of in
     let part = take (c .before .before .before .before .before .before .before .body-length .result - 0) (body .result) in
     let is = part-is (a .item .kind) (c .before .before .before .before .before .before .before .body-length .result) (n .0) (body .result) _ (c .before .before .before .before .before .before .before .body-length .ensures) (n .2) (body .ensures .0 (n .0) (n .1)) in (
-      λ os e. c .before .before .before .before .accept-record .ensures os (n .0) e (n .1) (body-is-long (a .at) os (a .item) (n .0) (n .1) blank (body .ensures .1) part is) ∙ ap stepOf (check-accept (a .at) os (a .item) (n .0) (n .1) blank (body .ensures .1) part is),
+      λ os e. c .before .before .before .before .accept-record .ensures .1 os (n .0) e (n .1) (body-is-long (a .at) os (a .item) (n .0) (n .1) blank (body .ensures .1) part is) ∙ ap stepOf (check-accept (a .at) os (a .item) (n .0) (n .1) blank (body .ensures .1) part is),
       λ os x e q. record-laid (a .at) os (a .item) (n .0) (n .1) blank (body .ensures .1) part is (a .sheet .now) _ (c .before .before .before .before .before .before .before .before .before .before .before .before .before .before .pre) (c .before .before .copy .ensures) x q,
     )
 

@@ -67,7 +67,7 @@ loop-again c =
     laying-next (c .before .before .before .before .before .before .before .before .before .before .before .before .args .sheet .now) (c .before .before .before .before .before .before .before .before .before .before .before .before .args .count) (c .before .before .before .before .before .before .before .before .before .loop .rows) (c .before .before .before .before .before .before .before .before .before .loop .at) (c .before .before .before .before .before .before .before .before .before .loop .inner) (c .before .before .before .before .before .before .before .before .before .loop .here) (c .before .before .before .before .before .before .before .before .before .loop .k) (c .before .before .before .before .before .before .before .before .before .loop .inv) (c .before .before .before .before .before .before .before .before .loop-test .taken) (c .before .before .before .before .before .before .row-at .result) row
     (c .before .before .before .before .put-cells .last .0) (c .before .before .before .before .put-cells .ensures)
     (c .before .before .inner-after .result) (c .before .before .inner-after .ensures (getD (recordsOf sheet) k endRecord) ns number (c .before .before .before .before .before .before .before .before .before .loop .inv .inmost) known)
-    (c .before .after .result) (c .before .after .ensures os (opensThrough [] (take (k + 1) (recordsOf sheet))) (c .before .before .before .before .before .before .before .before .before .loop .inv .opens) (ap (openAfterKind os) number ∙ opens-next sheet k (omega (arith, c .before .before .before .before .before .before .before .before .loop-test .taken, c .before .before .before .before .before .before .before .before .before .loop .inv .all))))
+    (c .before .after .result) (c .before .after .ensures .1 os (opensThrough [] (take (k + 1) (recordsOf sheet))) (c .before .before .before .before .before .before .before .before .before .loop .inv .opens) (ap (openAfterKind os) number ∙ opens-next sheet k (omega (arith, c .before .before .before .before .before .before .before .before .loop-test .taken, c .before .before .before .before .before .before .before .before .before .loop .inv .all))))
     (c .before .before .before .before .before .before .before .before .before .loop .at + (1 + c .body-length .result)) (next-by-kind (c .before .before .before .before .before .before .before .before .before .before .before .before .args .sheet .now) (c .before .before .before .before .before .before .before .before .before .before .before .before .args .count) (c .before .before .before .before .before .before .before .before .before .loop .k) (c .before .before .before .before .before .before .before .before .before .loop .at) (c .before .before .before .before .before .before .before .before .before .loop .inv .all) (c .before .before .before .before .before .before .before .before .loop-test .taken) (c .before .before .before .before .before .before .before .before .before .loop .inv .offset) (c .before .before .before .before .before .before .before .byte-at .result) (c .body-length .result) (c .before .before .before .before .before .before .before .byte-at .ensures) (c .body-length .ensures))
 
 returns : tie.Need-returns Inv-loop μ-loop

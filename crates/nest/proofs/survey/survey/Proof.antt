@@ -43,7 +43,7 @@ loop-less : tie.Need-loop-less Inv-loop μ-loop
 loop-less c = search needs
 
 loop-again : tie.Need-loop-again Inv-loop μ-loop
-loop-again c = surveying-skip (c .before .before .before .before .before .before .before .before .before .args .sheet .now) (c .before .before .before .before .before .before .before .before .before .args .count) (c .before .before .before .before .before .before .before .before .before .args .parameters) (c .before .before .before .before .before .before .loop .slopes) (c .before .before .before .before .before .before .loop .around) (c .before .before .before .before .before .before .loop .pushes) (c .before .before .before .before .before .before .loop .here) (c .before .before .before .before .before .before .loop .k) (c .before .before .before .before .before .before .loop .inv) (c .before .before .before .before .before .loop-test .taken) (λ e. c .before .if1 .taken (number-at (c .before .before .before .before .before .before .before .before .before .args .sheet .now) (c .before .before .before .before .before .before .before .before .before .args .count) (c .before .before .before .before .before .before .before .before .before .args .parameters) (c .before .before .before .before .before .before .loop .slopes) (c .before .before .before .before .before .before .loop .around) (c .before .before .before .before .before .before .loop .pushes) (c .before .before .before .before .before .before .loop .here) (c .before .before .before .before .before .before .loop .k) (c .before .before .before .before .before .before .loop .inv) (c .before .before .before .before .before .loop-test .taken) (c .before .before .before .before .before .before .before .before .before .args .rows .now) (c .before .before .before .before .before .before .before .before .before .pre .0 .1) (c .before .before .before .cell .result) (c .before .before .before .cell .ensures) (c .before .before .byte-at .result) (c .before .before .byte-at .ensures) ∙ e)) (c .after .result) (c .after .ensures (opensThrough [] (take (c .before .before .before .before .before .before .loop .k) (recordsOf (c .before .before .before .before .before .before .before .before .before .args .sheet .now)))) (opensThrough [] (take (c .before .before .before .before .before .before .loop .k + 1) (recordsOf (c .before .before .before .before .before .before .before .before .before .args .sheet .now)))) (c .before .before .before .before .before .before .loop .inv .opens) (ap (openAfterKind (opensThrough [] (take (c .before .before .before .before .before .before .loop .k) (recordsOf (c .before .before .before .before .before .before .before .before .before .args .sheet .now))))) (number-at (c .before .before .before .before .before .before .before .before .before .args .sheet .now) (c .before .before .before .before .before .before .before .before .before .args .count) (c .before .before .before .before .before .before .before .before .before .args .parameters) (c .before .before .before .before .before .before .loop .slopes) (c .before .before .before .before .before .before .loop .around) (c .before .before .before .before .before .before .loop .pushes) (c .before .before .before .before .before .before .loop .here) (c .before .before .before .before .before .before .loop .k) (c .before .before .before .before .before .before .loop .inv) (c .before .before .before .before .before .loop-test .taken) (c .before .before .before .before .before .before .before .before .before .args .rows .now) (c .before .before .before .before .before .before .before .before .before .pre .0 .1) (c .before .before .before .cell .result) (c .before .before .before .cell .ensures) (c .before .before .byte-at .result) (c .before .before .byte-at .ensures)) ∙ opens-next (c .before .before .before .before .before .before .before .before .before .args .sheet .now) (c .before .before .before .before .before .before .loop .k) (omega (arith, c .before .before .before .before .before .loop-test .taken, c .before .before .before .before .before .before .loop .inv .all))))
+loop-again c = surveying-skip (c .before .before .before .before .before .before .before .before .before .args .sheet .now) (c .before .before .before .before .before .before .before .before .before .args .count) (c .before .before .before .before .before .before .before .before .before .args .parameters) (c .before .before .before .before .before .before .loop .slopes) (c .before .before .before .before .before .before .loop .around) (c .before .before .before .before .before .before .loop .pushes) (c .before .before .before .before .before .before .loop .here) (c .before .before .before .before .before .before .loop .k) (c .before .before .before .before .before .before .loop .inv) (c .before .before .before .before .before .loop-test .taken) (λ e. c .before .if1 .taken (number-at (c .before .before .before .before .before .before .before .before .before .args .sheet .now) (c .before .before .before .before .before .before .before .before .before .args .count) (c .before .before .before .before .before .before .before .before .before .args .parameters) (c .before .before .before .before .before .before .loop .slopes) (c .before .before .before .before .before .before .loop .around) (c .before .before .before .before .before .before .loop .pushes) (c .before .before .before .before .before .before .loop .here) (c .before .before .before .before .before .before .loop .k) (c .before .before .before .before .before .before .loop .inv) (c .before .before .before .before .before .loop-test .taken) (c .before .before .before .before .before .before .before .before .before .args .rows .now) (c .before .before .before .before .before .before .before .before .before .pre .0 .1) (c .before .before .before .cell .result) (c .before .before .before .cell .ensures) (c .before .before .byte-at .result) (c .before .before .byte-at .ensures) ∙ e)) (c .after .result) (c .after .ensures .1 (opensThrough [] (take (c .before .before .before .before .before .before .loop .k) (recordsOf (c .before .before .before .before .before .before .before .before .before .args .sheet .now)))) (opensThrough [] (take (c .before .before .before .before .before .before .loop .k + 1) (recordsOf (c .before .before .before .before .before .before .before .before .before .args .sheet .now)))) (c .before .before .before .before .before .before .loop .inv .opens) (ap (openAfterKind (opensThrough [] (take (c .before .before .before .before .before .before .loop .k) (recordsOf (c .before .before .before .before .before .before .before .before .before .args .sheet .now))))) (number-at (c .before .before .before .before .before .before .before .before .before .args .sheet .now) (c .before .before .before .before .before .before .before .before .before .args .count) (c .before .before .before .before .before .before .before .before .before .args .parameters) (c .before .before .before .before .before .before .loop .slopes) (c .before .before .before .before .before .before .loop .around) (c .before .before .before .before .before .before .loop .pushes) (c .before .before .before .before .before .before .loop .here) (c .before .before .before .before .before .before .loop .k) (c .before .before .before .before .before .before .loop .inv) (c .before .before .before .before .before .loop-test .taken) (c .before .before .before .before .before .before .before .before .before .args .rows .now) (c .before .before .before .before .before .before .before .before .before .pre .0 .1) (c .before .before .before .cell .result) (c .before .before .before .cell .ensures) (c .before .before .byte-at .result) (c .before .before .byte-at .ensures)) ∙ opens-next (c .before .before .before .before .before .before .before .before .before .args .sheet .now) (c .before .before .before .before .before .before .loop .k) (omega (arith, c .before .before .before .before .before .loop-test .taken, c .before .before .before .before .before .before .loop .inv .all))))
 
 forms-at-requires : tie.Need-forms-at-requires Inv-loop μ-loop
 forms-at-requires c κs = search needs
@@ -79,7 +79,7 @@ loop-less-2 : tie.Need-loop-less-2 Inv-loop μ-loop
 loop-less-2 c = omega (arith, c .before .before .before .before .before .before .before .before .before .before .before .before .before .before .before .before .loop-test .taken)
 
 loop-again-2 : tie.Need-loop-again-2 Inv-loop μ-loop
-loop-again-2 c = let found = loop-there (getD (recordsOf (c .before .before .before .before .before .before .before .before .before .before .before .before .before .before .before .before .before .before .before .before .args .sheet .now)) (c .before .before .before .before .before .before .before .before .before .before .before .before .before .before .before .before .before .loop .k) endRecord) (sym (number-at (c .before .before .before .before .before .before .before .before .before .before .before .before .before .before .before .before .before .before .before .before .args .sheet .now) (c .before .before .before .before .before .before .before .before .before .before .before .before .before .before .before .before .before .before .before .before .args .count) (c .before .before .before .before .before .before .before .before .before .before .before .before .before .before .before .before .before .before .before .before .args .parameters) (c .before .before .before .before .before .before .before .before .before .before .before .before .before .before .before .before .before .loop .slopes) (c .before .before .before .before .before .before .before .before .before .before .before .before .before .before .before .before .before .loop .around) (c .before .before .before .before .before .before .before .before .before .before .before .before .before .before .before .before .before .loop .pushes) (c .before .before .before .before .before .before .before .before .before .before .before .before .before .before .before .before .before .loop .here) (c .before .before .before .before .before .before .before .before .before .before .before .before .before .before .before .before .before .loop .k) (c .before .before .before .before .before .before .before .before .before .before .before .before .before .before .before .before .before .loop .inv) (c .before .before .before .before .before .before .before .before .before .before .before .before .before .before .before .before .loop-test .taken) (c .before .before .before .before .before .before .before .before .before .before .before .before .before .before .before .before .before .before .before .before .args .rows .now) (c .before .before .before .before .before .before .before .before .before .before .before .before .before .before .before .before .before .before .before .before .pre .0 .1) (c .before .before .before .before .before .before .before .before .before .before .before .before .before .before .cell .result) (c .before .before .before .before .before .before .before .before .before .before .before .before .before .before .cell .ensures) (c .before .before .before .before .before .before .before .before .before .before .before .before .before .byte-at .result) (c .before .before .before .before .before .before .before .before .before .before .before .before .before .byte-at .ensures)) ∙ c .before .before .before .before .before .before .before .before .before .before .before .before .if1 .left) in surveying-next (c .before .before .before .before .before .before .before .before .before .before .before .before .before .before .before .before .before .before .before .before .args .sheet .now) (c .before .before .before .before .before .before .before .before .before .before .before .before .before .before .before .before .before .before .before .before .args .count) (c .before .before .before .before .before .before .before .before .before .before .before .before .before .before .before .before .before .before .before .before .args .parameters) (c .before .before .before .before .before .before .before .before .before .before .before .before .before .before .before .before .before .loop .slopes) (c .before .before .before .before .before .before .before .before .before .before .before .before .before .before .before .before .before .loop .around) (c .before .before .before .before .before .before .before .before .before .before .before .before .before .before .before .before .before .loop .pushes) (c .before .before .before .before .before .before .before .before .before .before .before .before .before .before .before .before .before .loop .here) (c .before .before .before .before .before .before .before .before .before .before .before .before .before .before .before .before .before .loop .k) (c .before .before .before .before .before .before .before .before .before .before .before .before .before .before .before .before .before .loop .inv) (c .before .before .before .before .before .before .before .before .before .before .before .before .before .before .before .before .loop-test .taken) (found .0) (found .1) (c .before .before .before .before .before .before .before .before .before .before .before .before .before .before .before .before .before .before .before .before .pre .1 .1) (c .before .before .before .before .before .before .before .before .before .before .before .before .before .before .before .before .before .before .before .before .args .rows .now) (c .before .before .before .before .before .before .before .before .before .before .before .before .before .before .before .before .before .before .before .before .pre .0 .1) (c .before .before .before .before .before .before .before .before .before .before .before .before .before .before .cell .result) (c .before .before .before .before .before .before .before .before .before .before .before .before .before .before .cell .ensures) (c .before .before .before .before .before .before .before .before .before .before .before .forms-at .result) (c .before .before .before .before .before .before .before .before .before .before .before .forms-at .ensures .0) (c .before .before .before .before .before .before .before .before .before .before .before .forms-at .ensures .1 .0) (c .before .before .before .before .before .before .before .before .before .before .before .forms-at .ensures .1 .1 .0) (c .before .before .before .before .before .before .before .before .before .before .before .forms-at .ensures .1 .1 .1) (c .before .before .before .before .before .before .before .choice-depth .result) (c .before .before .before .before .before .before .before .choice-depth .ensures (opensThrough [] (take (c .before .before .before .before .before .before .before .before .before .before .before .before .before .before .before .before .before .loop .k) (recordsOf (c .before .before .before .before .before .before .before .before .before .before .before .before .before .before .before .before .before .before .before .before .args .sheet .now)))) (c .before .before .before .before .before .before .before .before .before .before .before .before .before .before .before .before .before .loop .inv .opens)) (c .before .before .before .before .before .before .loop-cells .result) (c .before .before .before .before .before .before .loop-cells .ensures) (c .before .before .before .if2 .left) (c .before .before .before .before .put-cells .last .0) (c .before .before .before .before .put-cells .ensures) (c .before .before .around-with .result) (c .before .before .around-with .ensures) (c .before .pushes-with .result) (c .before .pushes-with .ensures) (c .after2 .result) (c .after2 .ensures (opensThrough [] (take (c .before .before .before .before .before .before .before .before .before .before .before .before .before .before .before .before .before .loop .k) (recordsOf (c .before .before .before .before .before .before .before .before .before .before .before .before .before .before .before .before .before .before .before .before .args .sheet .now)))) (opensThrough [] (take (c .before .before .before .before .before .before .before .before .before .before .before .before .before .before .before .before .before .loop .k + 1) (recordsOf (c .before .before .before .before .before .before .before .before .before .before .before .before .before .before .before .before .before .before .before .before .args .sheet .now)))) (c .before .before .before .before .before .before .before .before .before .before .before .before .before .before .before .before .before .loop .inv .opens) (ap (openAfterKind (opensThrough [] (take (c .before .before .before .before .before .before .before .before .before .before .before .before .before .before .before .before .before .loop .k) (recordsOf (c .before .before .before .before .before .before .before .before .before .before .before .before .before .before .before .before .before .before .before .before .args .sheet .now))))) (number-at (c .before .before .before .before .before .before .before .before .before .before .before .before .before .before .before .before .before .before .before .before .args .sheet .now) (c .before .before .before .before .before .before .before .before .before .before .before .before .before .before .before .before .before .before .before .before .args .count) (c .before .before .before .before .before .before .before .before .before .before .before .before .before .before .before .before .before .before .before .before .args .parameters) (c .before .before .before .before .before .before .before .before .before .before .before .before .before .before .before .before .before .loop .slopes) (c .before .before .before .before .before .before .before .before .before .before .before .before .before .before .before .before .before .loop .around) (c .before .before .before .before .before .before .before .before .before .before .before .before .before .before .before .before .before .loop .pushes) (c .before .before .before .before .before .before .before .before .before .before .before .before .before .before .before .before .before .loop .here) (c .before .before .before .before .before .before .before .before .before .before .before .before .before .before .before .before .before .loop .k) (c .before .before .before .before .before .before .before .before .before .before .before .before .before .before .before .before .before .loop .inv) (c .before .before .before .before .before .before .before .before .before .before .before .before .before .before .before .before .loop-test .taken) (c .before .before .before .before .before .before .before .before .before .before .before .before .before .before .before .before .before .before .before .before .args .rows .now) (c .before .before .before .before .before .before .before .before .before .before .before .before .before .before .before .before .before .before .before .before .pre .0 .1) (c .before .before .before .before .before .before .before .before .before .before .before .before .before .before .cell .result) (c .before .before .before .before .before .before .before .before .before .before .before .before .before .before .cell .ensures) (c .before .before .before .before .before .before .before .before .before .before .before .before .before .byte-at .result) (c .before .before .before .before .before .before .before .before .before .before .before .before .before .byte-at .ensures)) ∙ opens-next (c .before .before .before .before .before .before .before .before .before .before .before .before .before .before .before .before .before .before .before .before .args .sheet .now) (c .before .before .before .before .before .before .before .before .before .before .before .before .before .before .before .before .before .loop .k) (omega (arith, c .before .before .before .before .before .before .before .before .before .before .before .before .before .before .before .before .loop-test .taken, c .before .before .before .before .before .before .before .before .before .before .before .before .before .before .before .before .before .loop .inv .all))))
+loop-again-2 c = let found = loop-there (getD (recordsOf (c .before .before .before .before .before .before .before .before .before .before .before .before .before .before .before .before .before .before .before .before .args .sheet .now)) (c .before .before .before .before .before .before .before .before .before .before .before .before .before .before .before .before .before .loop .k) endRecord) (sym (number-at (c .before .before .before .before .before .before .before .before .before .before .before .before .before .before .before .before .before .before .before .before .args .sheet .now) (c .before .before .before .before .before .before .before .before .before .before .before .before .before .before .before .before .before .before .before .before .args .count) (c .before .before .before .before .before .before .before .before .before .before .before .before .before .before .before .before .before .before .before .before .args .parameters) (c .before .before .before .before .before .before .before .before .before .before .before .before .before .before .before .before .before .loop .slopes) (c .before .before .before .before .before .before .before .before .before .before .before .before .before .before .before .before .before .loop .around) (c .before .before .before .before .before .before .before .before .before .before .before .before .before .before .before .before .before .loop .pushes) (c .before .before .before .before .before .before .before .before .before .before .before .before .before .before .before .before .before .loop .here) (c .before .before .before .before .before .before .before .before .before .before .before .before .before .before .before .before .before .loop .k) (c .before .before .before .before .before .before .before .before .before .before .before .before .before .before .before .before .before .loop .inv) (c .before .before .before .before .before .before .before .before .before .before .before .before .before .before .before .before .loop-test .taken) (c .before .before .before .before .before .before .before .before .before .before .before .before .before .before .before .before .before .before .before .before .args .rows .now) (c .before .before .before .before .before .before .before .before .before .before .before .before .before .before .before .before .before .before .before .before .pre .0 .1) (c .before .before .before .before .before .before .before .before .before .before .before .before .before .before .cell .result) (c .before .before .before .before .before .before .before .before .before .before .before .before .before .before .cell .ensures) (c .before .before .before .before .before .before .before .before .before .before .before .before .before .byte-at .result) (c .before .before .before .before .before .before .before .before .before .before .before .before .before .byte-at .ensures)) ∙ c .before .before .before .before .before .before .before .before .before .before .before .before .if1 .left) in surveying-next (c .before .before .before .before .before .before .before .before .before .before .before .before .before .before .before .before .before .before .before .before .args .sheet .now) (c .before .before .before .before .before .before .before .before .before .before .before .before .before .before .before .before .before .before .before .before .args .count) (c .before .before .before .before .before .before .before .before .before .before .before .before .before .before .before .before .before .before .before .before .args .parameters) (c .before .before .before .before .before .before .before .before .before .before .before .before .before .before .before .before .before .loop .slopes) (c .before .before .before .before .before .before .before .before .before .before .before .before .before .before .before .before .before .loop .around) (c .before .before .before .before .before .before .before .before .before .before .before .before .before .before .before .before .before .loop .pushes) (c .before .before .before .before .before .before .before .before .before .before .before .before .before .before .before .before .before .loop .here) (c .before .before .before .before .before .before .before .before .before .before .before .before .before .before .before .before .before .loop .k) (c .before .before .before .before .before .before .before .before .before .before .before .before .before .before .before .before .before .loop .inv) (c .before .before .before .before .before .before .before .before .before .before .before .before .before .before .before .before .loop-test .taken) (found .0) (found .1) (c .before .before .before .before .before .before .before .before .before .before .before .before .before .before .before .before .before .before .before .before .pre .1 .1) (c .before .before .before .before .before .before .before .before .before .before .before .before .before .before .before .before .before .before .before .before .args .rows .now) (c .before .before .before .before .before .before .before .before .before .before .before .before .before .before .before .before .before .before .before .before .pre .0 .1) (c .before .before .before .before .before .before .before .before .before .before .before .before .before .before .cell .result) (c .before .before .before .before .before .before .before .before .before .before .before .before .before .before .cell .ensures) (c .before .before .before .before .before .before .before .before .before .before .before .forms-at .result) (c .before .before .before .before .before .before .before .before .before .before .before .forms-at .ensures .0) (c .before .before .before .before .before .before .before .before .before .before .before .forms-at .ensures .1 .0) (c .before .before .before .before .before .before .before .before .before .before .before .forms-at .ensures .1 .1 .0) (c .before .before .before .before .before .before .before .before .before .before .before .forms-at .ensures .1 .1 .1) (c .before .before .before .before .before .before .before .choice-depth .result) (c .before .before .before .before .before .before .before .choice-depth .ensures (opensThrough [] (take (c .before .before .before .before .before .before .before .before .before .before .before .before .before .before .before .before .before .loop .k) (recordsOf (c .before .before .before .before .before .before .before .before .before .before .before .before .before .before .before .before .before .before .before .before .args .sheet .now)))) (c .before .before .before .before .before .before .before .before .before .before .before .before .before .before .before .before .before .loop .inv .opens)) (c .before .before .before .before .before .before .loop-cells .result) (c .before .before .before .before .before .before .loop-cells .ensures) (c .before .before .before .if2 .left) (c .before .before .before .before .put-cells .last .0) (c .before .before .before .before .put-cells .ensures) (c .before .before .around-with .result) (c .before .before .around-with .ensures) (c .before .pushes-with .result) (c .before .pushes-with .ensures) (c .after2 .result) (c .after2 .ensures .1 (opensThrough [] (take (c .before .before .before .before .before .before .before .before .before .before .before .before .before .before .before .before .before .loop .k) (recordsOf (c .before .before .before .before .before .before .before .before .before .before .before .before .before .before .before .before .before .before .before .before .args .sheet .now)))) (opensThrough [] (take (c .before .before .before .before .before .before .before .before .before .before .before .before .before .before .before .before .before .loop .k + 1) (recordsOf (c .before .before .before .before .before .before .before .before .before .before .before .before .before .before .before .before .before .before .before .before .args .sheet .now)))) (c .before .before .before .before .before .before .before .before .before .before .before .before .before .before .before .before .before .loop .inv .opens) (ap (openAfterKind (opensThrough [] (take (c .before .before .before .before .before .before .before .before .before .before .before .before .before .before .before .before .before .loop .k) (recordsOf (c .before .before .before .before .before .before .before .before .before .before .before .before .before .before .before .before .before .before .before .before .args .sheet .now))))) (number-at (c .before .before .before .before .before .before .before .before .before .before .before .before .before .before .before .before .before .before .before .before .args .sheet .now) (c .before .before .before .before .before .before .before .before .before .before .before .before .before .before .before .before .before .before .before .before .args .count) (c .before .before .before .before .before .before .before .before .before .before .before .before .before .before .before .before .before .before .before .before .args .parameters) (c .before .before .before .before .before .before .before .before .before .before .before .before .before .before .before .before .before .loop .slopes) (c .before .before .before .before .before .before .before .before .before .before .before .before .before .before .before .before .before .loop .around) (c .before .before .before .before .before .before .before .before .before .before .before .before .before .before .before .before .before .loop .pushes) (c .before .before .before .before .before .before .before .before .before .before .before .before .before .before .before .before .before .loop .here) (c .before .before .before .before .before .before .before .before .before .before .before .before .before .before .before .before .before .loop .k) (c .before .before .before .before .before .before .before .before .before .before .before .before .before .before .before .before .before .loop .inv) (c .before .before .before .before .before .before .before .before .before .before .before .before .before .before .before .before .loop-test .taken) (c .before .before .before .before .before .before .before .before .before .before .before .before .before .before .before .before .before .before .before .before .args .rows .now) (c .before .before .before .before .before .before .before .before .before .before .before .before .before .before .before .before .before .before .before .before .pre .0 .1) (c .before .before .before .before .before .before .before .before .before .before .before .before .before .before .cell .result) (c .before .before .before .before .before .before .before .before .before .before .before .before .before .before .cell .ensures) (c .before .before .before .before .before .before .before .before .before .before .before .before .before .byte-at .result) (c .before .before .before .before .before .before .before .before .before .before .before .before .before .byte-at .ensures)) ∙ opens-next (c .before .before .before .before .before .before .before .before .before .before .before .before .before .before .before .before .before .before .before .before .args .sheet .now) (c .before .before .before .before .before .before .before .before .before .before .before .before .before .before .before .before .before .loop .k) (omega (arith, c .before .before .before .before .before .before .before .before .before .before .before .before .before .before .before .before .loop-test .taken, c .before .before .before .before .before .before .before .before .before .before .before .before .before .before .before .before .before .loop .inv .all))))
 
 returns-2 : tie.Need-returns-2 Inv-loop μ-loop
 returns-2 c = surveying-done (c .before .before .before .before .args .sheet .now) (c .before .before .before .before .args .count) (c .before .before .before .before .args .parameters) (c .before .loop .slopes) (c .before .loop .around) (c .before .loop .pushes) (c .before .loop .here) (c .before .loop .k) (c .before .loop .inv) (c .loop-test .left) (c .before .before .before .before .args .rows .now)

@@ -39,7 +39,7 @@ returns : tie.Need-returns
 returns c os e =
     let h = headIn (c .before .before .before .before .answer .given .0 .0) in
     let s = answer-stands (c .before .before .before .before .before .before .before .before .args .sheet .now) (c .before .before .before .before .before .before .before .before .args .at) (c .before .before .before .before .before .before .head-at .result) (c .before .before .before .before .before .before .head-at .ensures) (c .before .before .before .before .answer .given .0 .0) (c .before .before .before .before .answer .given .1) in
-    c .accept-record .ensures os (s .kind) e (ap kindOf (s .number) ∙ s .named) (part-long (c .before .before .before .before .before .before .before .before .args .sheet .now) (c .before .before .before .before .before .before .before .before .args .at) os h s) ∙ ap stepOf (read-found (c .before .before .before .before .before .before .before .before .args .sheet .now) (c .before .before .before .before .before .before .before .before .args .at) os h s)
+    c .accept-record .ensures .1 os (s .kind) e (ap kindOf (s .number) ∙ s .named) (part-long (c .before .before .before .before .before .before .before .before .args .sheet .now) (c .before .before .before .before .before .before .before .before .args .at) os h s) ∙ ap stepOf (read-found (c .before .before .before .before .before .before .before .before .args .sheet .now) (c .before .before .before .before .before .before .before .before .args .at) os h s)
 
 returns-2 : tie.Need-returns-2
 returns-2 c os e =

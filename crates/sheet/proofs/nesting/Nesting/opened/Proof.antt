@@ -1,14 +1,14 @@
 use mathlib.Core.Logic.{inl, inr, ⊎-elim}
 use native.Mathlib.Omega.{arith}
 use borrow.Author.Tests.{leb-true, leb-false}
-use Rattle.sheet.proofs.Openings.{opened-more, opened-full}
+use Rattle.sheet.proofs.Openings.{opened-same, opened-one}
 use borrow.Author.Needs.{needs}
 use Rattle.sheet.proofs.nesting.Nesting.opened.Statement.{statement}
 use Rattle.sheet.proofs.nesting.Nesting.opened.Tie as tie
 
 returns : tie.Need-returns
-returns c os o e d room =
-    opened-full (c .before .before .args .self) (c .before .before .args .digit) os o e d room (⊎-elim (λ w. inl (omega arith)) (λ w. inr (omega (arith, leb-true))) (c .if1 .came))
+returns c =
+    opened-same (c .before .before .args .self) (c .before .before .args .digit) (⊎-elim (λ w. inl (omega arith)) (λ w. inr (omega (arith, leb-true))) (c .if1 .came))
 
 add-t5 : tie.Need-add-t5
 add-t5 c = search needs
@@ -23,7 +23,7 @@ add-t10 : tie.Need-add-t10
 add-t10 c = search needs
 
 returns-2 : tie.Need-returns-2
-returns-2 c os o e d room = opened-more (c .before .before .before .before .before .before .before .args .self) (c .before .before .before .before .before .before .before .args .digit) os o e d room
+returns-2 c = opened-one (c .before .before .before .before .before .before .before .args .self) (c .before .before .before .before .before .before .before .args .digit) (omega (arith, leb-false)) (omega (arith, leb-false))
 
 pub opened-spec : {M : Type 1} → statement M
 opened-spec = tie.close (tie.spec returns add-t5 add-t7 mul-t9 add-t10 returns-2)
