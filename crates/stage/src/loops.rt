@@ -51,21 +51,21 @@ fn end_walked(
     at: usize,
     k: usize,
     depth: usize,
-    o: usize,
-    n: u64,
+    frame: usize,
+    trips: u64,
     sums: &mut [u64; 3],
     counters: &mut [u64; 4],
     frames: &mut [u64; 40],
 ) -> Passed
-    requires { ⌜ (at < 64) × ((k + 1 < 2 ^ 64) × ((depth < 4) × (o < 8))) ⌝ }
+    requires { ⌜ (at < 64) × ((k + 1 < 2 ^ 64) × (depth < 4)) ⌝ }
     ensures { λ r. ⌜ ((rows before kept : List ℕ) →
-        endTripWhere rows (ltb (suc (getD (now (counters .entry)) depth 0)) n) 0 k depth o n (now (sums .entry))
+        endTripWhere rows (ltb (suc (getD (now (counters .entry)) depth 0)) trips) 0 k depth frame trips (now (sums .entry))
         (stateWith at before (now (counters .entry)) (now (frames .entry)) kept)
         ≡ record { begun = r .begun; after = stateWith (r .at) (now (sums .exit)) (now (counters .exit)) (now (frames .exit)) kept }) ⌝ }
 {
     let counter = counters[depth];
-    pass_trip(frames, o, sums);
-    if further(counter, n) {
+    pass_trip(frames, frame, sums);
+    if further(counter, trips) {
         counters[depth] = counter + 1;
         begin_visit(sums);
         return Passed {
@@ -74,38 +74,38 @@ fn end_walked(
         };
     }
     counters[depth] = 0;
-    close_frame(frames, o, sums);
+    close_frame(frames, frame, sums);
     Passed {
         at: at + 1,
         begun: false,
     }
 }
 
-// A closed loop with n trips, `held` of them kept before the open one, is left: the sum of its trips goes to what is around it.
+// A closed loop, `held` of whose trips are kept before the open one, is left: the sum of its trips goes to what is around it.
 fn leave_closed(
     depth: usize,
-    o: usize,
+    frame: usize,
     held: u64,
-    n: u64,
+    trips: u64,
     sums: &mut [u64; 3],
     frames: &mut [u64; 40],
     kept: &mut [u64; 12],
 )
-    requires { ⌜ (depth + held < 4) × ((o < 8) × (n ≤ 2048)) ⌝ }
-    ensures { λ _. ⌜ now (sums .exit) ≡ sumsAround (now (frames .entry)) o
-        (tripsSum n held (firstTrips (now (kept .entry)) (keptFrom depth) held (leastOf (now (sums .entry)))))
-        (tripsSum n held (firstTrips (now (kept .entry)) (keptFrom depth + 1) held (mostOf (now (sums .entry)))))
+    requires { ⌜ (depth + held < 4) × (trips ≤ 2048) ⌝ }
+    ensures { λ _. ⌜ now (sums .exit) ≡ sumsAround (now (frames .entry)) frame
+        (tripsSum trips held (firstTrips (now (kept .entry)) (keptFrom depth) held (leastOf (now (sums .entry)))))
+        (tripsSum trips held (firstTrips (now (kept .entry)) (keptFrom depth + 1) held (mostOf (now (sums .entry)))))
         (now (sums .entry)) ⌝ }
-    ensures { λ _. ⌜ now (frames .exit) ≡ frameLeft (now (frames .entry)) o ⌝ }
+    ensures { λ _. ⌜ now (frames .exit) ≡ frameLeft (now (frames .entry)) frame ⌝ }
     ensures { λ _. ⌜ now (kept .exit) ≡ forgotten (now (kept .entry)) depth held ⌝ }
 {
     let from = kept_from(depth);
-    let weights = weights_of(n, held + 1);
+    let weights = weights_of(trips, held + 1);
     let least = weighted_sum(weights, first_trips(kept, from, held, least_of(sums)));
     let most = weighted_sum(weights, first_trips(kept, from + 1, held, most_of(sums)));
     blank(kept, from, 2 * (held as usize));
-    add_around(frames, o, least, most, sums);
-    leave_frame(frames, o);
+    add_around(frames, frame, least, most, sums);
+    leave_frame(frames, frame);
 }
 
 // The end of a trip of the closed loop k: a further trip opens and this one is kept, or the loop is left.
@@ -113,22 +113,22 @@ fn end_closed(
     at: usize,
     k: usize,
     depth: usize,
-    o: usize,
+    frame: usize,
     limit: u64,
-    n: u64,
+    trips: u64,
     sums: &mut [u64; 3],
     counters: &mut [u64; 4],
     frames: &mut [u64; 40],
     kept: &mut [u64; 12],
 ) -> Passed
-    requires { ⌜ (at < 64) × ((k + 1 < 2 ^ 64) × ((o < 8) × ((1 ≤ limit) × ((limit + depth ≤ 4) × (n ≤ 2048))))) ⌝ }
+    requires { ⌜ (at < 64) × ((k + 1 < 2 ^ 64) × ((1 ≤ limit) × ((limit + depth ≤ 4) × (trips ≤ 2048)))) ⌝ }
     ensures { λ r. ⌜ ((rows before : List ℕ) →
-        endTripWhere rows (ltb (suc (getD (now (counters .entry)) depth 0)) (visitedOf limit n)) limit k depth o n (now (sums .entry))
+        endTripWhere rows (ltb (suc (getD (now (counters .entry)) depth 0)) (visitedOf limit trips)) limit k depth frame trips (now (sums .entry))
         (stateWith at before (now (counters .entry)) (now (frames .entry)) (now (kept .entry)))
         ≡ record { begun = r .begun; after = stateWith (r .at) (now (sums .exit)) (now (counters .exit)) (now (frames .exit)) (now (kept .exit)) }) ⌝ }
 {
     let counter = counters[depth];
-    if further(counter, visited_of(limit, n)) {
+    if further(counter, visited_of(limit, trips)) {
         keep(kept, depth, counter as usize, sums);
         counters[depth] = counter + 1;
         begin_visit(sums);
@@ -138,7 +138,15 @@ fn end_closed(
         };
     }
     counters[depth] = 0;
-    leave_closed(depth, o, held_trips(limit, counter), n, sums, frames, kept);
+    leave_closed(
+        depth,
+        frame,
+        held_trips(limit, counter),
+        trips,
+        sums,
+        frames,
+        kept,
+    );
     Passed {
         at: at + 1,
         begun: false,
@@ -162,15 +170,26 @@ fn end_trip(
         ≡ record { begun = r .begun; after = stateWith (r .at) (now (sums .exit)) (now (counters .exit)) (now (frames .exit)) (now (kept .exit)) } ⌝ }
 {
     let depth = depth_at(rows, k);
-    let o = frame_at(rows, k);
-    let n = trips_at(slopes, counters, k);
+    let frame = frame_at(rows, k);
+    let trips = trips_at(slopes, counters, k);
     let limit = limit_at(rows, slopes, k);
     let step = second_at(rows, k);
     add(sums, step, step);
     if limit == 0 {
-        return end_walked(at, k, depth, o, n, sums, counters, frames);
+        return end_walked(at, k, depth, frame, trips, sums, counters, frames);
     }
-    end_closed(at, k, depth, o, limit, n, sums, counters, frames, kept)
+    end_closed(
+        at,
+        k,
+        depth,
+        frame,
+        limit,
+        trips,
+        sums,
+        counters,
+        frames,
+        kept,
+    )
 }
 
 // A loop's record: with no trip the stage goes on after its end, otherwise the first trip opens.
@@ -189,9 +208,9 @@ fn enter_loop(
         ≡ record { begun = r .begun; after = stateWith (r .at) (now (sums .exit)) (now (counters .entry)) (now (frames .exit)) kept }) ⌝ }
 {
     let start = first_at(rows, at);
-    let n = trips_at(slopes, counters, at);
+    let trips = trips_at(slopes, counters, at);
     add(sums, start, start);
-    if n == 0 {
+    if trips == 0 {
         return Passed {
             at: after_end_at(rows, at),
             begun: false,

@@ -73,10 +73,10 @@ pub(crate) fn pass_choice(
         reset(sums);
         return at + 1;
     }
-    let o = frame_at(rows, opener_at(rows, at));
-    pass_arm(frames, o, sums);
+    let frame = frame_at(rows, opener_at(rows, at));
+    pass_arm(frames, frame, sums);
     if kind == END {
-        close_frame(frames, o, sums);
+        close_frame(frames, frame, sums);
         return at + 1;
     }
     reset(sums);

@@ -21,14 +21,14 @@ further-requires c κs = search needs
 keep-requires : tie.Need-keep-requires
 keep-requires c κs =
     let c2 = c .before .before in let c3 = c2 .before in let c4 = c3 .before in let c6 = c4 .before .before in let a = c6 .args in let q = c6 .pre in
-    has-room (getD (now (a .counters)) (a .depth) 0) (a .limit) (a .n) (a .depth) (q .1 .1 .1 .0) (q .1 .1 .1 .1 .0) (c4 .visited-of .ensures)
+    has-room (getD (now (a .counters)) (a .depth) 0) (a .limit) (a .trips) (a .depth) (q .1 .1 .0) (q .1 .1 .1 .0) (c4 .visited-of .ensures)
     (c3 .further .ensures) (c2 .if1 .taken)
 
 add-counters : tie.Need-add-counters
 add-counters c =
     let a = c .before .before .before .before .before .before .before .args in
     let q = c .before .before .before .before .before .before .before .pre in
-    let h = has-room (getD (now (a .counters)) (a .depth) 0) (a .limit) (a .n) (a .depth) (q .1 .1 .1 .0) (q .1 .1 .1 .1 .0)
+    let h = has-room (getD (now (a .counters)) (a .depth) 0) (a .limit) (a .trips) (a .depth) (q .1 .1 .0) (q .1 .1 .1 .0)
     (c .before .before .before .before .before .visited-of .ensures) (c .before .before .before .before .further .ensures)
     (c .before .before .before .if1 .taken) in
     omega arith
@@ -49,8 +49,8 @@ returns : tie.Need-returns
 returns c =
     let c2 = c .before .before in let c5 = c2 .before .before .before in let c6 = c5 .before in let c7 = c6 .before in let c9 = c7 .before .before in
     λ rows before. let a = c9 .args in let q = c9 .pre in
-    closed-on rows (a .at) (a .k) (a .depth) (a .o) (a .n) (now (a .sums)) before (now (a .counters)) (now (a .frames)) (now (a .kept)) (a .limit)
-    (q .1 .1 .1 .0) (c7 .visited-of .ensures) (c6 .further .ensures) (c5 .if1 .taken) (c2 .keep .ensures) (c .begin-visit .ensures)
+    closed-on rows (a .at) (a .k) (a .depth) (a .frame) (a .trips) (now (a .sums)) before (now (a .counters)) (now (a .frames)) (now (a .kept)) (a .limit)
+    (q .1 .1 .0) (c7 .visited-of .ensures) (c6 .further .ensures) (c5 .if1 .taken) (c2 .keep .ensures) (c .begin-visit .ensures)
 
 mul-counters-2 : tie.Need-mul-counters-2
 mul-counters-2 c = search needs
@@ -65,7 +65,7 @@ leave-closed-requires : tie.Need-leave-closed-requires
 leave-closed-requires c κs =
     let a = c .before .before .before .before .before .before .before .before .args in
     let q = c .before .before .before .before .before .before .before .before .pre in
-    let h = held-room (getD (now (a .counters)) (a .depth) 0) (a .limit) (a .depth) (q .1 .1 .1 .0) (q .1 .1 .1 .1 .0) (c .before .before .before .held-trips .ensures) in
+    let h = held-room (getD (now (a .counters)) (a .depth) 0) (a .limit) (a .depth) (q .1 .1 .0) (q .1 .1 .1 .0) (c .before .before .before .held-trips .ensures) in
     omega arith
 
 add-t12 : tie.Need-add-t12
@@ -75,8 +75,8 @@ returns-2 : tie.Need-returns-2
 returns-2 c =
     let c4 = c .before .before .before .before in let c5 = c4 .before in let c6 = c5 .before in let c7 = c6 .before in let c9 = c7 .before .before in
     λ rows before. let a = c9 .args in let q = c9 .pre in
-    closed-left rows (a .at) (a .k) (a .depth) (a .o) (a .n) (now (a .sums)) before (now (a .counters)) (now (a .frames)) (now (a .kept)) (a .limit)
-    (q .1 .1 .1 .0) (c7 .visited-of .ensures) (c6 .further .ensures) (c5 .if1 .left) (c4 .held-trips .ensures) (c .leave-closed .ensures .0)
+    closed-left rows (a .at) (a .k) (a .depth) (a .frame) (a .trips) (now (a .sums)) before (now (a .counters)) (now (a .frames)) (now (a .kept)) (a .limit)
+    (q .1 .1 .0) (c7 .visited-of .ensures) (c6 .further .ensures) (c5 .if1 .left) (c4 .held-trips .ensures) (c .leave-closed .ensures .0)
     (c .leave-closed .ensures .1 .0) (c .leave-closed .ensures .1 .1)
 
 pub end-closed-spec : {M : Type 1} → statement M

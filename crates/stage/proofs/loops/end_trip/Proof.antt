@@ -2,7 +2,7 @@ use native.Mathlib.Omega.{arith}
 use denote.Ref.{now}
 use borrow.Author.Needs.{needs}
 use Rattle.parts.specs.PlanNumbers.{depthAt}
-use Rattle.parts.proofs.CellLaws.{frame-small, depth-small, limit-small}
+use Rattle.parts.proofs.CellLaws.{depth-small, limit-small}
 use Rattle.parts.proofs.TripLaws.{trips-few}
 use Rattle.stage.proofs.LoopLaws.{ends-walked, ends-closed}
 use Rattle.stage.proofs.loops.end_trip.Statement.{statement}
@@ -29,7 +29,7 @@ add-requires c κs = search needs
 end-walked-requires : tie.Need-end-walked-requires
 end-walked-requires c κs =
     let a = c .before .before .before .before .before .before .before .before .before .before .before .before .args in
-    let p = depth-small (now (a .rows)) (a .k) in let q = frame-small (now (a .rows)) (a .k) in
+    let p = depth-small (now (a .rows)) (a .k) in
     omega arith
 
 returns : tie.Need-returns
@@ -43,7 +43,7 @@ returns c =
 end-closed-requires : tie.Need-end-closed-requires
 end-closed-requires c κs =
     let a = c .before .before .before .before .before .before .before .before .before .before .before .before .before .args in
-    let p = depth-small (now (a .rows)) (a .k) in let q = frame-small (now (a .rows)) (a .k) in
+    let p = depth-small (now (a .rows)) (a .k) in
     let t = trips-few (now (a .slopes)) (now (a .counters)) (a .k) in
     let l = limit-small (now (a .slopes)) (a .k) (depthAt (now (a .rows)) (a .k)) p in
     omega arith

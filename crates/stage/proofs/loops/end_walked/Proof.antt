@@ -21,7 +21,7 @@ further-requires c κs = search needs
 add-counters : tie.Need-add-counters
 add-counters c =
     let a = c .before .before .before .before .before .before .args in
-    let h = counts-on (getD (now (a .counters)) (a .depth) 0) (a .n) (c .before .further .ensures) (c .if1 .taken) in
+    let h = counts-on (getD (now (a .counters)) (a .depth) 0) (a .trips) (c .before .further .ensures) (c .if1 .taken) in
     omega arith
 
 mul-counters : tie.Need-mul-counters
@@ -40,7 +40,7 @@ returns : tie.Need-returns
 returns c =
     let c2 = c .before .before in let c3 = c2 .before in let c4 = c3 .before in let c8 = c4 .before .before .before .before in
     λ rows before kept. let a = c8 .args in
-    walked-on rows (a .at) (a .k) (a .depth) (a .o) (a .n) (now (a .sums)) before (now (a .counters)) (now (a .frames)) kept (c3 .further .ensures)
+    walked-on rows (a .at) (a .k) (a .depth) (a .frame) (a .trips) (now (a .sums)) before (now (a .counters)) (now (a .frames)) kept (c3 .further .ensures)
     (c2 .if1 .taken) (c4 .pass-trip .ensures) (c .begin-visit .ensures)
 
 mul-counters-2 : tie.Need-mul-counters-2
@@ -59,7 +59,7 @@ returns-2 : tie.Need-returns-2
 returns-2 c =
     let c3 = c .before .before .before in let c4 = c3 .before in let c5 = c4 .before in let c9 = c5 .before .before .before .before in
     λ rows before kept. let a = c9 .args in
-    walked-left rows (a .at) (a .k) (a .depth) (a .o) (a .n) (now (a .sums)) before (now (a .counters)) (now (a .frames)) kept (c4 .further .ensures)
+    walked-left rows (a .at) (a .k) (a .depth) (a .frame) (a .trips) (now (a .sums)) before (now (a .counters)) (now (a .frames)) kept (c4 .further .ensures)
     (c3 .if1 .left) (c5 .pass-trip .ensures) (c .close-frame .ensures .0) (c .close-frame .ensures .1)
 
 pub end-walked-spec : {M : Type 1} → statement M

@@ -69,11 +69,11 @@ returns c =
     let c12 = c9 .before .before .before in let c13 = c12 .before in let c14 = c13 .before in let c17 = c14 .before .before .before in
     let c18 = c17 .before in let c19 = c18 .before in let a = c19 .args in
     let f = c18 .kept-from .ensures in
-    let least = sum-made (a .n) (a .held) (keptFrom (a .depth)) (now (a .kept)) (c19 .pre .1 .1) f
+    let least = sum-made (a .trips) (a .held) (keptFrom (a .depth)) (now (a .kept)) (c19 .pre .1) f
     (c14 .least-of .ensures) (c17 .weights-of .ensures) (c13 .first-trips .ensures) (c12 .weighted-sum .ensures) in
-    let most = sum-made (a .n) (a .held) (keptFrom (a .depth) + 1) (now (a .kept)) (c19 .pre .1 .1) (ap (λ (m : ℕ). m + 1) f)
+    let most = sum-made (a .trips) (a .held) (keptFrom (a .depth) + 1) (now (a .kept)) (c19 .pre .1) (ap (λ (m : ℕ). m + 1) f)
     (c9 .most-of .ensures) (c17 .weights-of .ensures) (c8 .first-trips2 .ensures) (c7 .weighted-sum2 .ensures) in (
-      c2 .add-around .ensures ∙ (λ i. sumsAround (now (a .frames)) (a .o) (least i) (most i) (now (a .sums))),
+      c2 .add-around .ensures ∙ (λ i. sumsAround (now (a .frames)) (a .frame) (least i) (most i) (now (a .sums))),
       (c .leave-frame .ensures, c5 .blank .ensures ∙ ap (λ (m : ℕ). blanked (now (a .kept)) m (2 * a .held)) f),
     )
 
