@@ -5,7 +5,7 @@
 LIBRARY is answers.c linked with the static library. It gets the listings of
 FOLDER, whose expected answers the reckoning too has to give, by going over
 every trip; then the kept cases, then N random ones. `bound` gets the same, but
-only every tenth random case; it is left out where PROGRAM is no file. The first
+only every tenth random case; without PROGRAM it is left out. The first
 difference is shown as a listing with both answers, and the exit status is 1.
 """
 
@@ -204,7 +204,7 @@ def check_all(given: argparse.Namespace) -> None:
 def main() -> None:
     parser = argparse.ArgumentParser(description="compares the tool with the reckoning")
     parser.add_argument("library", help="answers.c, linked with the static library")
-    parser.add_argument("--program", help="bound; left out where there is no such file")
+    parser.add_argument("--program", help="bound; without it the library alone is compared")
     parser.add_argument("--listings", help="a folder of listings with expected answers")
     parser.add_argument("--cases", type=int, default=2000)
     parser.add_argument("--seed", type=int, default=SystemRandom().randrange(1_000_000))

@@ -8,17 +8,14 @@ After the sheet follow the four parameters, 2 bytes each, the budget, 4 bytes,
 and the 24 bytes of the answer area: least, most and visits, or zeros.
 """
 
-import os
 from random import Random
 
-import known
-import readings
 from calls import Answer, Figures, answer
 from generate import SIZES, Case, cases
+from kept import kept_cases
 from nest import encode_parameters
 from stored import main, numbers
 
-HERE = os.path.dirname(os.path.abspath(__file__))
 SEED = 2051
 # of each size, three sheets each: valid, damaged, hostile
 RANDOM_CASES = {"small": 450, "middle": 250, "large": 60}
@@ -55,9 +52,7 @@ def with_edges(case: Case) -> list[tuple[Case, Answer]]:
 
 def all_cases() -> bytes:
     random = Random(SEED)
-    lines = readings.parse_file(os.path.join(HERE, "readings.txt"))
-    given = [Case("reading", line.sheet, line.parameters, line.budget) for line in lines]
-    given += [Case("known", k.sheet(), k.parameters, k.budget) for k in known.MARKED]
+    given = kept_cases()
     for name, size in SIZES.items():
         given += cases(random, RANDOM_CASES[name], size)
     return b"".join(figure_case(*answered) for case in given for answered in with_edges(case))

@@ -9,18 +9,15 @@ the four parameters, 2 bytes each, and for each loop 5 bytes: its offset, 1 for
 closed or 0 for walked, its ceiling.
 """
 
-import os
 from random import Random
 
 import generate
-import known
-import readings
 from generate import SIZES, cases
+from kept import kept_cases
 from nest import LoopReport, Parameters, accepted, encode_parameters, loop_reports
 from records import Refusal
 from stored import main, numbers
 
-HERE = os.path.dirname(os.path.abspath(__file__))
 SEED = 2050
 # of each size, three sheets each: valid, damaged, hostile
 RANDOM_CASES = 200
@@ -54,9 +51,7 @@ def random_cases(random: Random) -> list[bytes]:
 
 
 def all_cases() -> bytes:
-    lines = readings.parse_file(os.path.join(HERE, "readings.txt"))
-    made = [plan_case(line.sheet, line.parameters) for line in lines]
-    made += [plan_case(case.sheet(), case.parameters) for case in known.MARKED]
+    made = [plan_case(case.sheet, case.parameters) for case in kept_cases()]
     return b"".join(made + random_cases(Random(SEED)))
 
 

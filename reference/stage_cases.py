@@ -12,33 +12,27 @@ last stage but one reaches the sheet's end; the last one stays there. A refused
 or empty sheet has one stage, which changes nothing.
 """
 
-import os
 from random import Random
-from typing import Iterator, NamedTuple
+from typing import Iterator
 
-import known
-import readings
-from generate import SIZES, parameters, valid_records
-from nest import Parameters, encode_parameters
+from generate import SIZES, Case, parameters, valid_records
+from kept import kept_cases
+from nest import encode_parameters
 from records import Refusal, encode_all
 from stages import Nest, State, at_end, first_state, nest_of, next_state
 from stored import main, numbers
 from tree import has_choice_with_loop, height, loops_directly_in, tree
 from trips import trips_of
 
-HERE = os.path.dirname(os.path.abspath(__file__))
 SEED = 2052
 STAGES = 5
+# of a case that has one; a stage takes none
+BUDGET = 1_000_000
 # a case's states have to fit in the program's space of 4,096 bytes
 MOST_STAGES = 150
 # at least so many random sheets of each sort
 EACH_SORT = 150
 SORTS = ("walked", "closed", "choice with a loop", "four deep", "no trip")
-
-
-class StageCase(NamedTuple):
-    sheet: bytes
-    parameters: Parameters
 
 
 def states_of(nest: Nest) -> list[State]:
@@ -59,7 +53,7 @@ def line(state: State) -> bytes:
     return numbers(state.position) + state.visits.to_bytes(4, "little") + sums
 
 
-def stored(case: StageCase) -> bytes:
+def stored(case: Case) -> bytes:
     """The case with its states; nothing where these are too many. A refused sheet leaves the first state as it is."""
     nest = nest_of(case.sheet, case.parameters)
     states = [first_state()] if isinstance(nest, Refusal) else states_of(nest)
@@ -84,17 +78,17 @@ def sorts_of(nest: Nest) -> set[str]:
     return {sort for sort, holds in zip(SORTS, tests) if holds}
 
 
-def random_cases(random: Random) -> Iterator[StageCase]:
+def random_cases(random: Random) -> Iterator[Case]:
     """Valid sheets of all sizes in turn, without end."""
     while True:
         for size in SIZES.values():
-            yield StageCase(encode_all(valid_records(random, size)), parameters(random))
+            yield Case("valid", encode_all(valid_records(random, size)), parameters(random), BUDGET)
 
 
-def wanted_cases(random: Random) -> list[StageCase]:
+def wanted_cases(random: Random) -> list[Case]:
     """Sheets of which each is of a sort that there are not yet enough of."""
     left = dict.fromkeys(SORTS, EACH_SORT)
-    chosen: list[StageCase] = []
+    chosen: list[Case] = []
     for case in random_cases(random):
         nest = nest_of(case.sheet, case.parameters)
         if isinstance(nest, Refusal) or not states_of(nest):
@@ -108,10 +102,7 @@ def wanted_cases(random: Random) -> list[StageCase]:
 
 
 def all_cases() -> bytes:
-    lines = readings.parse_file(os.path.join(HERE, "readings.txt"))
-    given = [StageCase(reading.sheet, reading.parameters) for reading in lines]
-    given += [StageCase(case.sheet(), case.parameters) for case in known.MARKED]
-    return b"".join(map(stored, given + wanted_cases(Random(SEED))))
+    return b"".join(map(stored, kept_cases() + wanted_cases(Random(SEED))))
 
 
 if __name__ == "__main__":
