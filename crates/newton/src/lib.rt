@@ -1,16 +1,19 @@
 // A closed loop's sum from its first trips, by Newton's forward differences, modulo 2^64.
-pub mod pairs;
 pub mod product;
 
 ghost use mathlib.Core.Path.{_≡_};
-ghost use Prim.Native.Nat.{_-_, _≤_, _^_, min};
+ghost use mathlib.Core.Bool.{cond};
+ghost use Prim.Native.Nat.{_-_, _^_, min};
+ghost use lib.Dec.{leb};
 ghost use Rattle.whole.specs.Integer.{floorRemainder};
+ghost use Rattle.whole.specs.Newton.{choose};
 ghost use Rattle.newton.specs.Weights.{weightsOf, weightedSum};
-use crate::pairs::pairs;
-use crate::pairs::within;
 use crate::product::wrapping_product;
 use std::num::wrapping_add_u64;
 use std::num::wrapping_sub_u64;
+
+// The most trips that a loop of an answered sheet makes.
+const MOST_TRIPS: u64 = 2048;
 
 // C(n, 1) to C(n, 4), the weights of the differences of order 0 to 3; those past the known values are 0.
 pub struct Weights {
@@ -20,6 +23,13 @@ pub struct Weights {
     pub four: u64,
 }
 
+// A sheet with a loop of more trips is refused, so that cutting a number loses nothing.
+fn within(n: u64) -> u64
+    ensures { λ r. ⌜ r ≡ min n 2048 ⌝ }
+{
+    if n < MOST_TRIPS { n } else { MOST_TRIPS }
+}
+
 // n - k, or 0 where k is larger.
 fn less(n: u64, k: u64) -> u64
     ensures { λ r. ⌜ r ≡ n - k ⌝ }
@@ -27,54 +37,43 @@ fn less(n: u64, k: u64) -> u64
     if n < k { 0 } else { n - k }
 }
 
-// The weights of at most two known values.
-fn two_weights(one: u64, two: u64) -> Weights
-    ensures { λ r. ⌜ r ≡ record { one = one; two = two; three = 0; four = 0 } ⌝ }
+// C(n, 2); an n above 2,048 counts as 2,048.
+fn pairs(n: u64) -> u64
+    ensures { λ r. ⌜ r ≡ choose (min n 2048) 2 ⌝ }
 {
-    Weights {
-        one: one,
-        two: two,
-        three: 0,
-        four: 0,
-    }
+    let trips = within(n);
+    trips * less(trips, 1) / 2
 }
 
-// The weights of three known values or more, all from C(n - 1, 2), so that the table is asked once.
-// Where two are known it is asked for C(n, 2): calls that differ keep the table out of the caller's frame.
-fn more_weights(n: u64, known: u64) -> Weights
-    requires { ⌜ (n ≤ 2048) × (3 ≤ known) ⌝ }
-    ensures { λ r. ⌜ r ≡ weightsOf n known ⌝ }
+// The weight of this order, or 0 where fewer values are known.
+fn if_known(order: u64, known: u64, weight: u64) -> u64
+    ensures { λ r. ⌜ r ≡ cond (leb order known) weight 0 ⌝ }
 {
-    let before = less(n, 1);
-    let below = pairs(before as usize);
-    let three = below * n / 3;
-    if known == 3 {
-        return Weights {
-            one: n,
-            two: below + before,
-            three: three,
-            four: 0,
-        };
-    }
-    Weights {
-        one: n,
-        two: below + before,
-        three: three,
-        four: three * less(n, 3) / 4,
-    }
+    if order <= known { weight } else { 0 }
 }
 
 // The weights for the sum of n values of which the first `known` are known; an n above 2,048 counts as 2,048.
+// A loop without loops inside has one known value and is left most often: the other weights are not worked out for it.
 pub fn weights_of(n: u64, known: u64) -> Weights
     ensures { λ r. ⌜ r ≡ weightsOf (min n 2048) known ⌝ }
 {
-    let index = within(n as usize);
-    let trips = index as u64;
-    match known {
-        0 => two_weights(0, 0),
-        1 => two_weights(trips, 0),
-        2 => two_weights(trips, pairs(index)),
-        _ => more_weights(trips, known),
+    let one = within(n);
+    if known < 2 {
+        return Weights {
+            one: if_known(1, known, one),
+            two: 0,
+            three: 0,
+            four: 0,
+        };
+    }
+    let two = pairs(n);
+    let three = two * less(one, 2) / 3;
+    let four = three * less(one, 3) / 4;
+    Weights {
+        one: one,
+        two: two,
+        three: if_known(3, known, three),
+        four: if_known(4, known, four),
     }
 }
 

@@ -1,5 +1,5 @@
--- Binomial coefficients: the next from the one before, and those of order 1 to 4.
-use mathlib.Core.Path.{_≡_, refl, sym, _∙_, ap}
+-- Binomial coefficients: the next from the one before, by a product and by a quotient.
+use mathlib.Core.Path.{_≡_, refl, sym, ap}
 use Prim.Native.Nat.{ℕ, zero, suc, _+_, _*_, _-_, _/_, _≤_, _<_}
 use native.Mathlib.Nat.{div-eq-of-eq-mul-left}
 use native.Mathlib.Omega.{arith}
@@ -13,10 +13,6 @@ choose-next zero zero = refl
 choose-next zero (suc k) = omega arith
 choose-next (suc n) zero = omega (arith, choose-next n zero)
 choose-next (suc n) (suc k) = omega (arith, choose-next n k, choose-next n (suc k))
-
-pub choose-absorption : (n k : ℕ) → choose (suc n) (suc k) * suc k ≡ choose n k * suc n
-unfolding choose
-choose-absorption n k = omega (arith, choose-next n k)
 
 pub choose-none : (n k : ℕ) → n < k → choose n k ≡ 0
 unfolding choose
@@ -42,36 +38,6 @@ pub choose-one : (n : ℕ) → choose n 1 ≡ n
 unfolding choose
 choose-one n = omega (arith, choose-next n 0)
 
-pub choose-two : (n : ℕ) → choose n 2 * 2 ≡ n * (n - 1)
-choose-two n = choose-step n 1 ∙ ap (λ (m : ℕ). m * (n - 1)) (choose-one n)
-
--- the next coefficient of order 2
-pub choose-two-suc : (n : ℕ) → choose n 2 + n ≡ choose (suc n) 2
-unfolding choose
-choose-two-suc n = omega (arith, choose-one n)
-
-pub choose-three : (n : ℕ) → choose n 3 * 3 ≡ choose n 2 * (n - 2)
-choose-three n = choose-step n 2
-
-pub choose-four : (n : ℕ) → choose n 4 * 4 ≡ choose n 3 * (n - 3)
-choose-four n = choose-step n 3
-
--- the same as quotients; the division is exact
-pub choose-two-quotient : (n : ℕ) → n * (n - 1) / 2 ≡ choose n 2
-choose-two-quotient n = div-eq-of-eq-mul-left (omega arith) (sym (choose-two n))
-
-pub choose-three-quotient : (n : ℕ) → choose n 2 * (n - 2) / 3 ≡ choose n 3
-choose-three-quotient n = div-eq-of-eq-mul-left (omega arith) (sym (choose-three n))
-
-pub choose-four-quotient : (n : ℕ) → choose n 3 * (n - 3) / 4 ≡ choose n 4
-choose-four-quotient n = div-eq-of-eq-mul-left (omega arith) (sym (choose-four n))
-
--- from two coefficients of order 2
-pub choose-four-from-two : (n : ℕ) → choose n 4 * 6 ≡ choose n 2 * choose (n - 2) 2
-choose-four-from-two n = general (choose n 2) (choose n 3) (choose n 4) (choose (n - 2) 2) (n - 2) (n - 3) (choose-three n) (choose-four n) (choose-two (n - 2) ∙ ap (λ (m : ℕ). (n - 2) * m) less)
-  where
-    less : n - 2 - 1 ≡ n - 3
-    less = omega arith
-
-    general : (p q s r k j : ℕ) → q * 3 ≡ p * k → s * 4 ≡ q * j → r * 2 ≡ k * j → s * 6 ≡ p * r
-    general p q s r k j three four two = omega (arith, ap (λ (x : ℕ). x * j) three, ap (λ (x : ℕ). p * x) two)
+-- the same as a quotient; the division is exact
+pub choose-quotient : (n k : ℕ) → choose n k * (n - k) / suc k ≡ choose n (suc k)
+choose-quotient n k = div-eq-of-eq-mul-left (omega arith) (sym (choose-step n k))

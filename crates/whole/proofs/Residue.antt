@@ -1,18 +1,14 @@
--- Arithmetic modulo a number follows that of the integers; binomial coefficients and Newton's sum modulo 2^64.
-use mathlib.Core.Path.{_≡_, refl, sym, _∙_, ap, ap₂, subst}
-use mathlib.Core.List.{[], _∷_}
-use Prim.Native.Nat.{ℕ, zero, _+_, _*_, _-_, _/_, _%_, _^_, _≤_, _<_}
+-- Arithmetic modulo a number follows that of the integers; so does Newton's sum of four values.
+use mathlib.Core.Path.{_≡_, sym, _∙_, ap, ap₂}
+use Prim.Native.Nat.{ℕ, zero, _+_, _*_, _/_, _%_, _<_}
 use native.Mathlib.Omega.{arith}
-use native.Mathlib.Nat.{add-assoc, div-add-mod', mod-eq-of-lt, mod-add-mod, add-mod-mod}
+use native.Mathlib.Nat.{div-add-mod', mod-eq-of-lt}
 use lib.IntN.{ℤ, pos, _+ℤ_, _-ℤ_, _*ℤ_}
-use lib.ListN.{take}
 use Rattle.whole.specs.Integer.{floorDivide, floorRemainder}
-use Rattle.whole.specs.Newton.{choose, newtonSum, weightedDifferences, weight}
+use Rattle.whole.specs.Newton.{weightedDifferences}
 use Rattle.whole.specs.Residue.{Congruent}
-use Rattle.whole.proofs.Ring.{collect, parts, ⊖-eq, expand, sort-sums, sort-products, *ℤ-assoc, cancel-right}
+use Rattle.whole.proofs.Ring.{collect, parts, ⊖-eq, expand, sort-sums, sort-products}
 use Rattle.whole.proofs.Floor.{floor-division, floorRemainder-unique}
-use Rattle.whole.proofs.Choose.{choose-three, choose-four-from-two}
-use Rattle.whole.proofs.Newton.{newtonSum-padded}
 
 -- ---- sums, products, remainders, for any modulus M
 
@@ -87,59 +83,6 @@ module _ (M : ℕ) where
   pub congruent-exact : {r n : ℕ} → r < M → n < M → Congruent M r (pos n) → r ≡ n
   congruent-exact r-below n-below h = congruent-residue r-below h ∙ mod-eq-of-lt n-below
 
-  -- the remainder of a natural, given as such
-  pub congruent-remainder : {r n : ℕ} → r ≡ n % M → Congruent M r (pos n)
-  congruent-remainder {n} e = rw e (congruent-mod (congruent-pos n))
-
-  -- division by u, which has an inverse modulo M
-  pub congruent-divide : (u inverse w : ℕ) → u * inverse ≡ 1 + w * M → {r : ℕ} {z : ℤ} → Congruent M r (z *ℤ pos u) → Congruent M (r * inverse % M) z
-  congruent-divide u inverse w e {r} {z} h =
-      let j : Congruent M (r * inverse) (z *ℤ pos u *ℤ pos inverse) = congruent-mul h (congruent-pos inverse) in
-      congruent-mod (record { quotient = j .quotient -ℤ z *ℤ pos w; equation = divided z (pos u) (pos inverse) (pos w) (pos M) (pos (r * inverse)) (j .quotient) (ap pos e) (j .equation) })
-    where
-      divided : (z u i w m x k : ℤ) → u *ℤ i ≡ pos 1 +ℤ w *ℤ m → z *ℤ u *ℤ i ≡ x +ℤ k *ℤ m → z ≡ x +ℤ (k -ℤ z *ℤ w) *ℤ m
-      divided z u i w m x k unit h = cancel-right z (x +ℤ (k -ℤ z *ℤ w) *ℤ m) (z *ℤ w *ℤ m)
-          (sym (one-more z w m) ∙ ap (λ (t : ℤ). z *ℤ t) (sym unit) ∙ sym (*ℤ-assoc z u i) ∙ h ∙ added x k m (z *ℤ w))
-        where
-          one-more : (z w m : ℤ) → z *ℤ (pos 1 +ℤ w *ℤ m) ≡ z +ℤ z *ℤ w *ℤ m
-          one-more z w m = rw (parts z, parts w, parts m) (simp collect (⊖-eq _ _ _ _ (omega arith)))
-
-          added : (x k m s : ℤ) → x +ℤ k *ℤ m ≡ (x +ℤ (k -ℤ s) *ℤ m) +ℤ s *ℤ m
-          added x k m s = rw (parts x, parts k, parts m, parts s) (simp collect (⊖-eq _ _ _ _ (omega arith)))
-
--- ---- binomial coefficients modulo 2^64, with no division of more than 64 bits
-
--- a third: 12297829382473034411 · 3 = 1 + 2 · 2^64
-pub congruent-third : {r : ℕ} {z : ℤ} → Congruent (2 ^ 64) r (z *ℤ pos 3) → Congruent (2 ^ 64) (r * 12297829382473034411 % 2 ^ 64) z
-congruent-third h = congruent-divide (2 ^ 64) 3 12297829382473034411 2 refl h
-
--- C(n, 3) from C(n, 2)
-pub congruent-choose-three : (n c2 : ℕ) → Congruent (2 ^ 64) c2 (pos (choose n 2)) → Congruent (2 ^ 64) ((c2 * (n - 2) % 2 ^ 64) * 12297829382473034411 % 2 ^ 64) (pos (choose n 3))
-congruent-choose-three n c2 h = congruent-third (subst (λ (m : ℕ). Congruent (2 ^ 64) (c2 * (n - 2) % 2 ^ 64) (pos m)) (sym (choose-three n)) (congruent-mod (2 ^ 64) (congruent-mul (2 ^ 64) h (congruent-pos (2 ^ 64) (n - 2)))))
-
--- C(n, 4) · 3 from C(n, 2) and C(n - 2, 2): half of their product, taken in the even one
-pub choose-four-left-half : (n : ℕ) → choose n 2 % 2 ≡ 0 → choose n 2 / 2 * choose (n - 2) 2 ≡ choose n 4 * 3
-choose-four-left-half n even = general (choose n 2) (choose (n - 2) 2) (choose n 4) (choose n 2 / 2) (choose-four-from-two n) (omega arith)
-  where
-    general : (a b c i : ℕ) → c * 6 ≡ a * b → a ≡ 2 * i → i * b ≡ c * 3
-    general a b c i e half = omega (arith, ap (λ (x : ℕ). x * b) half)
-
-pub choose-four-right-half : (n : ℕ) → choose n 2 % 2 ≡ 1 → choose n 2 * (choose (n - 2) 2 / 2) ≡ choose n 4 * 3
-choose-four-right-half n odd = general (choose n 2) (choose (n - 2) 2) (choose n 4) (choose n 2 / 2) (choose-four-from-two n) (omega arith)
-  where
-    even : (a b c i : ℕ) → c * 6 ≡ a * b → a ≡ 2 * i + 1 → b % 2 ≡ 0
-    even a b c i e k = omega (arith, ap (λ (x : ℕ). x * b) k)
-
-    halved : (a b c j : ℕ) → c * 6 ≡ a * b → b ≡ 2 * j → a * j ≡ c * 3
-    halved a b c j e half = omega (arith, ap (λ (x : ℕ). a * x) half)
-
-    general : (a b c i : ℕ) → c * 6 ≡ a * b → a ≡ 2 * i + 1 → a * (b / 2) ≡ c * 3
-    general a b c i e k = let z = even a b c i e k in halved a b c (b / 2) e (omega arith)
-
--- C(n, 4) from a residue of C(n, 4) · 3
-pub congruent-choose-four : (n p r : ℕ) → p ≡ choose n 4 * 3 → r ≡ p % 2 ^ 64 → Congruent (2 ^ 64) (r * 12297829382473034411 % 2 ^ 64) (pos (choose n 4))
-congruent-choose-four n p r e f = congruent-third (rw (← e) (congruent-remainder (2 ^ 64) f))
-
 -- ---- Newton's sum modulo M, from residues of four values and of the weights
 -- t0, t1, .. are residues of the values v0, v1, .., c1, c2, .. those of the weights w1, w2, ..; d21 is the wrapped difference of order 2 at 1;
 -- m0, m1, .. are the wrapped terms, and s2, s1, r their wrapped sums from the last term on.
@@ -164,13 +107,3 @@ module _ (M : ℕ) where
       congruent-wrapping-add M g0 (congruent-wrapping-mul M f0 h0 k1)
       (congruent-wrapping-add M g1 (congruent-wrapping-mul M f1 r10 k2)
       (congruent-wrapping-add M g2 (congruent-wrapping-mul M f2 r20 k3) (congruent-wrapping-mul M f3 r30 k4)))
-
-  -- the sum of n trips from the first `known` of four values; the values beyond may be any
-  pub congruent-newton : (n known : ℕ) (v0 v1 v2 v3 : ℤ) (r : ℕ) → known ≤ 4
-      → Congruent M r (weightedDifferences v0 v1 v2 v3 (weight n known 1) (weight n known 2) (weight n known 3) (weight n known 4))
-      → Congruent M r (newtonSum n (take known (v0 ∷ v1 ∷ v2 ∷ v3 ∷ [])))
-  congruent-newton n known v0 v1 v2 v3 r h = rw (newtonSum-padded n known v0 v1 v2 v3 h) (λ c. c)
-
-  -- wrapped sums may be grouped in any way: what is added in pairs is added from the last term on
-  pub wrapped-sum-regroup : (a b c : ℕ) → ((a + b) % M + c) % M ≡ (a + (b + c) % M) % M
-  wrapped-sum-regroup a b c = mod-add-mod (a + b) M c ∙ ap (λ (n : ℕ). n % M) (add-assoc a b c) ∙ sym (add-mod-mod a (b + c) M)

@@ -1,61 +1,79 @@
-use mathlib.Core.Path.{_∙_, ap}
-use Prim.Native.Nat.{ℕ}
+use mathlib.Core.Path.{sym, _∙_}
 use borrow.Author.Needs.{needs}
 use native.Mathlib.Omega.{arith}
-use Rattle.newton.specs.Weights.{weightsOf}
-use Rattle.newton.proofs.Binomial.{choose-within, weights-none, weights-one, weights-two}
+use Rattle.whole.proofs.Choose.{choose-one}
+use Rattle.newton.proofs.Binomial.{next-is, next-size, weight-known, weight-unknown, weight-asked, weights-are}
 use Rattle.newton.proofs.weights_of.Statement.{statement}
 use Rattle.newton.proofs.weights_of.Tie as tie
 
 within-requires : tie.Need-within-requires
 within-requires c κs = search needs
 
-two-weights-requires : tie.Need-two-weights-requires
-two-weights-requires c κs = search needs
+if-known-requires : tie.Need-if-known-requires
+if-known-requires c κs = search needs
 
-two-weights-requires-2 : tie.Need-two-weights-requires-2
-two-weights-requires-2 c κs = search needs
+returns : tie.Need-returns
+returns c =
+    let b = c .before .before in
+    let known = b .before .args .known in
+    weights-are _ known _ _ _ _
+    (weight-asked _ known 1 _ _ (b .within .ensures ∙ sym (choose-one _)) (c .if-known .ensures))
+    (weight-unknown _ known 2 (omega arith))
+    (weight-unknown _ known 3 (omega arith))
+    (weight-unknown _ known 4 (omega arith))
 
 pairs-requires : tie.Need-pairs-requires
 pairs-requires c κs = search needs
 
-two-weights-requires-3 : tie.Need-two-weights-requires-3
-two-weights-requires-3 c κs = search needs
+less-requires : tie.Need-less-requires
+less-requires c κs = search needs
 
-more-weights-requires : tie.Need-more-weights-requires
-more-weights-requires c κs = search needs
+mul-three : tie.Need-mul-three
+mul-three c = let b = c .before in
+    record { fits = next-size _ 2 _ _ _ (b .before .before .within .ensures) (b .pairs .ensures) (c .less .ensures) (omega arith) (omega arith) }
 
-returns : tie.Need-returns
-returns c = c .two-weights .ensures ∙ weights-none _ _ (omega arith)
+less-requires-2 : tie.Need-less-requires-2
+less-requires-2 c κs = search needs
+
+mul-four : tie.Need-mul-four
+mul-four c = let l = c .before in let b = l .before in let e = b .before .before .within .ensures in
+    record { fits = next-size _ 3 _ _ _ e (next-is _ 2 _ _ _ e (b .pairs .ensures) (l .less .ensures)) (c .less2 .ensures) (omega arith) (omega arith) }
+
+if-known-requires-2 : tie.Need-if-known-requires-2
+if-known-requires-2 c κs = search needs
+
+if-known-requires-3 : tie.Need-if-known-requires-3
+if-known-requires-3 c κs = search needs
 
 returns-2 : tie.Need-returns-2
-returns-2 c = let b = c .before .before in
-    c .two-weights2 .ensures
-    ∙ weights-one (b .within .result) (b .before .args .known) (omega arith)
-    ∙ ap (λ (n : ℕ). weightsOf n (b .before .args .known)) (b .within .ensures)
-
-returns-3 : tie.Need-returns-3
-returns-3 c = let b = c .before .before .before in
-    c .two-weights3 .ensures
-    ∙ weights-two (b .within .result) (b .before .args .known) (c .before .pairs .result) (omega arith)
-    (choose-within _ _ _ (b .within .ensures) (c .before .pairs .ensures))
-    ∙ ap (λ (n : ℕ). weightsOf n (b .before .args .known)) (b .within .ensures)
-
-returns-4 : tie.Need-returns-4
-returns-4 c = let b = c .before .before in
-    c .more-weights .ensures ∙ ap (λ (n : ℕ). weightsOf n (b .before .args .known)) (b .within .ensures)
+returns-2 c =
+    let k = c .before in
+    let l2 = k .before in
+    let l1 = l2 .before in
+    let p = l1 .before in
+    let b = p .before .before in
+    let known = b .before .args .known in
+    let one = b .within .ensures in
+    let two = p .pairs .ensures in
+    let three = next-is _ 2 _ _ _ one two (l1 .less .ensures) in
+    weights-are _ known _ _ _ _
+    (weight-known _ known 1 _ (omega arith) (one ∙ sym (choose-one _)))
+    (weight-known _ known 2 _ (omega arith) two)
+    (weight-asked _ known 3 _ _ three (k .if-known2 .ensures))
+    (weight-asked _ known 4 _ _ (next-is _ 3 _ _ _ one three (l2 .less2 .ensures)) (c .if-known3 .ensures))
 
 pub weights-of-spec : {M : Type 1} → statement M
 weights-of-spec =
     tie.close
     (tie.spec
     within-requires
-    two-weights-requires
-    two-weights-requires-2
-    pairs-requires
-    two-weights-requires-3
-    more-weights-requires
+    if-known-requires
     returns
-    returns-2
-    returns-3
-    returns-4)
+    pairs-requires
+    less-requires
+    mul-three
+    less-requires-2
+    mul-four
+    if-known-requires-2
+    if-known-requires-3
+    returns-2)
