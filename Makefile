@@ -6,6 +6,7 @@ test:
 
 # What the other targets need beyond the kit, from Debian's packages; the gate needs none of it.
 setup:
+	apt-get update
 	apt-get install -y binutils gcc libc6-dev pkg-config python3 rustc valgrind
 
 # Prove what changed since the last check.
@@ -23,10 +24,11 @@ run-c:
 	cc -std=c99 -Wall -Wextra -O2 -Iinclude examples/figures.c target/staticlib/libfigures.a -o target/figures-example
 	target/figures-example
 
-# Time the proved call against plain Rust, in one run.
+# Time the proved call against plain Rust, in one run, and count the instructions of both.
 bench:
 	rt staticlib figures
-	rustc --edition 2021 -C opt-level=3 bench/main.rs -L target/staticlib -l static=figures -o target/bench
+	rustc --edition 2021 -C opt-level=3 -C codegen-units=1 -C panic=abort bench/main.rs \
+		-L target/staticlib -l static=figures -o target/bench
 	target/bench crates/vectors/data/figures
 
 # The package: all that a host program needs, in a folder that may be moved.
@@ -51,10 +53,10 @@ dist-program:
 dist-test: dist
 	packaging/test.sh dist
 
-# The most stack that a call takes, from the machine code; the header promises that 20 KB suffice.
+# The most stack that a call takes, from the machine code; the header promises that 10 KB suffice.
 stack:
 	rt staticlib figures
-	python3 packaging/stack.py target/staticlib/libfigures.a 20000
+	python3 packaging/stack.py target/staticlib/libfigures.a 10000
 
 # The independent reckoning's own tests, and its comparison with what the documents show.
 reference:

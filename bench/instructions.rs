@@ -1,0 +1,41 @@
+//! Instructions of a call, counted by callgrind: the same in every run, whatever else the machine does.
+use crate::calls::{self, LARGEST_BUDGET};
+use crate::sheets::sheets;
+use crate::timing::opaque;
+use std::process::Command;
+
+/// The argument by which this program runs so many calls of a sheet and nothing else.
+pub const ONLY_CALLS: &str = "--only-calls";
+
+/// Runs what `ONLY_CALLS` names: how many calls, of which sheet, by which of the calls.
+pub fn run_only(words: &[String]) {
+    let numbers: Vec<usize> = words.iter().map(|word| word.parse().expect("a number")).collect();
+    let (_, sheet, _) = &sheets()[numbers[1]];
+    for _ in 0..numbers[0] {
+        let _ = opaque(calls::all()[numbers[2]].at_zero(opaque(sheet), LARGEST_BUDGET));
+    }
+}
+
+/// Has the C library clear and copy by vectors: callgrind would count each byte of a string instruction.
+const NO_STRING_INSTRUCTIONS: &str = "glibc.cpu.x86_rep_stosb_threshold=1048576:glibc.cpu.x86_rep_movsb_threshold=1048576";
+
+/// The instructions of a whole run of this program.
+fn of_run(count: usize, sheet: usize, call: usize) -> Option<u64> {
+    let program = std::env::current_exe().expect("this program");
+    let words = [count, sheet, call].map(|number| number.to_string());
+    let said = Command::new("valgrind")
+        .env("GLIBC_TUNABLES", NO_STRING_INSTRUCTIONS)
+        .args(["--tool=callgrind", "--callgrind-out-file=/dev/null"])
+        .arg(program)
+        .arg(ONLY_CALLS)
+        .args(words)
+        .output()
+        .ok()?;
+    let said = String::from_utf8_lossy(&said.stderr).into_owned();
+    said.split("Collected : ").nth(1)?.split_whitespace().next()?.parse().ok()
+}
+
+/// Those of one call: a run of two calls less a run of one. None where there is no valgrind.
+pub fn of_call(sheet: usize, call: usize) -> Option<f64> {
+    Some((of_run(2, sheet, call)? - of_run(1, sheet, call)?) as f64)
+}

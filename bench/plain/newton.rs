@@ -1,0 +1,22 @@
+//! The sum of a closed loop's trips from the first ones, by Newton's forward differences, modulo 2^64.
+
+/// Least and most of n trips, of which the first `known`, at most four, are given; the others are not looked at.
+pub fn sums(n: u64, known: u64, visited: &[[u64; 2]; 4]) -> [u64; 2] {
+    if known <= 1 {
+        return visited[0].map(|first| n.wrapping_mul(first));
+    }
+    let two = n * (n - 1) / 2;
+    let three = if known < 3 { 0 } else { two * (n - 2) / 3 };
+    let four = if known < 4 { 0 } else { three * (n - 3) / 4 };
+    [0, 1].map(|figure| sum([n, two, three, four], visited.map(|trip| trip[figure])))
+}
+
+fn sum(weights: [u64; 4], v: [u64; 4]) -> u64 {
+    let rise = v[1].wrapping_sub(v[0]);
+    let next_rise = v[2].wrapping_sub(v[1]);
+    let last_rise = v[3].wrapping_sub(v[2]);
+    let bend = next_rise.wrapping_sub(rise);
+    let twist = last_rise.wrapping_sub(next_rise).wrapping_sub(bend);
+    let terms = [v[0], rise, bend, twist];
+    (0..4).fold(0, |sum: u64, k| sum.wrapping_add(weights[k].wrapping_mul(terms[k])))
+}

@@ -1,0 +1,237 @@
+//! The records and the loops of a sheet at given parameters, or refusals 1 to 7, by one pass over its bytes.
+use super::filled::Filled;
+use super::form::{number, Form};
+
+/// A refusal's number and place.
+pub type Refused = (u32, usize);
+
+pub const WORK: u8 = 1;
+pub const LOOP: u8 = 2;
+pub const END: u8 = 3;
+pub const CHOICE: u8 = 4;
+pub const NEXT_ARM: u8 = 5;
+
+const RECORDS: usize = 64;
+const MOST_OPEN: usize = 8;
+const DEEPEST: usize = 4;
+const MOST_CYCLES: u16 = 4095;
+const MOST_TRIPS: i64 = 2048;
+
+#[derive(Clone, Copy)]
+pub struct Record {
+    pub kind: u8,
+    /// How many records are open around it.
+    pub opened: u8,
+    /// The record that opened what this one closes, or the end of what it opens.
+    pub partner: u8,
+    /// Of a loop: its number among the loops.
+    pub number: u8,
+    /// A work's least and most, a loop's start and step.
+    pub costs: [u16; 2],
+}
+
+#[derive(Clone, Copy)]
+pub struct Loop {
+    /// How many loops are open around it.
+    pub depth: usize,
+    pub stride: i64,
+    /// Upper minus lower bound where all counters are 0.
+    pub base: i64,
+    /// What a trip of each loop around adds to that.
+    pub pushes: [i64; 3],
+    /// How many trips of a closed loop are visited at most: height + 1; 0 for a walked one.
+    pub limit: u64,
+}
+
+impl Loop {
+    pub fn trips(&self, counters: &[i64; 4]) -> u64 {
+        let pushed: i64 = (0..3).map(|m| self.pushes[m] * counters[m]).sum();
+        match self.base + pushed {
+            d if d < 0 => 0,
+            d if self.stride == 1 => d as u64 + 1,
+            d => d as u64 / self.stride as u64 + 1,
+        }
+    }
+
+    /// How many of its trips are visited.
+    pub fn visited(&self, trips: u64) -> u64 {
+        if self.limit == 0 { trips } else { trips.min(self.limit) }
+    }
+}
+
+pub struct Plan {
+    pub records: Filled<Record, RECORDS>,
+    pub loops: Filled<Loop, RECORDS>,
+}
+
+/// What is known of the open loops, by depth.
+struct Around {
+    numbers: [usize; DEEPEST],
+    /// The indexes' ranges, and their values where all counters are 0.
+    lo: [i64; DEEPEST],
+    hi: [i64; DEEPEST],
+    start: [i64; DEEPEST],
+    /// What a trip of each loop adds to the index of each deeper one.
+    pushes: [[i64; DEEPEST]; DEEPEST],
+}
+
+impl Around {
+    const NONE: Around = Around { numbers: [0; 4], lo: [0; 4], hi: [0; 4], start: [0; 4], pushes: [[0; 4]; 4] };
+
+    /// Enters a loop at this depth: the loop, and the smallest and the largest value of its upper minus its lower bound.
+    fn enter(&mut self, depth: usize, number: usize, stride: i64, lower: &Form, upper: &Form) -> (Loop, i64, i64) {
+        let difference = upper.minus(lower);
+        let (smallest, largest) = difference.range(&self.lo, &self.hi);
+        let base = difference.constant + difference.dot(&self.start);
+        let mut pushes = [0; 3];
+        let (lo, _) = lower.range(&self.lo, &self.hi);
+        let (_, hi) = upper.range(&self.lo, &self.hi);
+        let start = lower.constant + lower.dot(&self.start);
+        for m in 0..depth {
+            pushes[m] = difference.dot(&self.pushes[m]);
+            self.pushes[m][depth] = lower.dot(&self.pushes[m]);
+        }
+        self.numbers[depth] = number;
+        self.lo[depth] = lo;
+        self.hi[depth] = lo.max(hi);
+        self.start[depth] = start;
+        self.pushes[depth] = [0; DEEPEST];
+        self.pushes[depth][depth] = stride;
+        (Loop { depth, stride, base, pushes, limit: 1 }, smallest, largest)
+    }
+
+    /// What a loop means for the loops around it: it keeps them from being closed, or they visit a trip more for it.
+    fn limit(&self, inner: &Loop, smallest: i64, choice_depth: usize, loops: &mut [Loop]) {
+        let mut even = smallest >= -inner.stride;
+        for depth in (0..inner.depth).rev() {
+            even = even && (inner.stride == 1 || inner.pushes[depth] % inner.stride == 0);
+            let limit = &mut loops[self.numbers[depth]].limit;
+            if !even || choice_depth > depth {
+                *limit = 0;
+            } else if *limit != 0 {
+                *limit = (*limit).max((inner.depth - depth + 1) as u64);
+            }
+        }
+    }
+}
+
+#[derive(Clone, Copy)]
+struct Open {
+    record: usize,
+    is_loop: bool,
+    /// How many loops stand around the innermost choice here.
+    choice_depth: usize,
+}
+
+struct Reader<'a> {
+    plan: &'a mut Plan,
+    parameters: [i16; 4],
+    around: Around,
+    open: Filled<Open, MOST_OPEN>,
+    depth: usize,
+    /// The first loop that may make too many trips.
+    over_ceiling: Option<usize>,
+}
+
+impl Reader<'_> {
+    fn opens(&mut self, kind: u8, choice_depth: usize) -> Result<(), u32> {
+        if self.open.len() == MOST_OPEN || (kind == LOOP && self.depth == DEEPEST) {
+            return Err(5);
+        }
+        self.open.push(Open { record: self.plan.records.len(), is_loop: kind == LOOP, choice_depth });
+        Ok(())
+    }
+
+    /// The record that an end or a next arm belongs to.
+    fn closes(&mut self, kind: u8) -> Result<u8, u32> {
+        let opener = *self.open.last().ok_or(5u32)?;
+        if kind == NEXT_ARM && opener.is_loop {
+            return Err(5);
+        }
+        if kind == END {
+            self.plan.records[opener.record].partner = self.plan.records.len() as u8;
+            self.open.pop();
+            self.depth -= opener.is_loop as usize;
+        }
+        Ok(opener.record as u8)
+    }
+
+    fn enters(&mut self, body: &[u8], costs: [u16; 2], choice_depth: usize, at: usize) -> Result<(), u32> {
+        let stride = number(&body[4..]) as i64;
+        let lower = Form::read(&body[6..15], self.parameters);
+        let upper = Form::read(&body[15..24], self.parameters);
+        let enclosed = lower.enclosed_by(self.depth) && upper.enclosed_by(self.depth);
+        if costs[0] > MOST_CYCLES || costs[1] > MOST_CYCLES || !(1..=1000).contains(&stride) || !enclosed {
+            return Err(3);
+        }
+        self.opens(LOOP, choice_depth)?;
+        let (entered, smallest, largest) = self.around.enter(self.depth, self.plan.loops.len(), stride, &lower, &upper);
+        if largest >= MOST_TRIPS * stride && self.over_ceiling.is_none() {
+            self.over_ceiling = Some(at);
+        }
+        self.around.limit(&entered, smallest, choice_depth, &mut self.plan.loops);
+        self.plan.loops.push(entered);
+        self.depth += 1;
+        Ok(())
+    }
+
+    fn record(&mut self, kind: u8, body: &[u8], at: usize) -> Result<(), u32> {
+        let opened = self.open.len() as u8;
+        let choice_depth = self.open.last().map_or(0, |o| o.choice_depth);
+        let mut record = Record { kind, opened, partner: 0, number: self.plan.loops.len() as u8, costs: [0; 2] };
+        match kind {
+            WORK => {
+                record.costs = [number(body), number(&body[2..])];
+                if record.costs[0] > record.costs[1] || record.costs[1] > MOST_CYCLES {
+                    return Err(3);
+                }
+            }
+            LOOP => {
+                record.costs = [number(body), number(&body[2..])];
+                self.enters(body, record.costs, choice_depth, at)?;
+            }
+            CHOICE => self.opens(CHOICE, self.depth)?,
+            _ => record.partner = self.closes(kind)?,
+        }
+        self.plan.records.push(record);
+        Ok(())
+    }
+}
+
+fn body_length(kind: u8) -> Option<usize> {
+    match kind {
+        WORK => Some(4),
+        LOOP => Some(24),
+        END | CHOICE | NEXT_ARM => Some(0),
+        _ => None,
+    }
+}
+
+impl Plan {
+    pub fn new() -> Plan {
+        Plan { records: Filled::new(), loops: Filled::new() }
+    }
+
+    pub fn fill(&mut self, sheet: &[u8], parameters: [i16; 4], budget: u32) -> Result<(), Refused> {
+        if budget == 0 || budget > 1_000_000 {
+            return Err((7, 0));
+        }
+        let mut reader =
+            Reader { plan: self, parameters, around: Around::NONE, open: Filled::new(), depth: 0, over_ceiling: None };
+        let mut at = 0;
+        while at < sheet.len() {
+            if reader.plan.records.len() == RECORDS {
+                return Err((4, at));
+            }
+            let kind = sheet[at];
+            let length = body_length(kind).ok_or((2, at))?;
+            let body = sheet.get(at + 1..at + 1 + length).ok_or((1, at))?;
+            reader.record(kind, body, at).map_err(|number| (number, at))?;
+            at += 1 + length;
+        }
+        if !reader.open.is_empty() {
+            return Err((5, at));
+        }
+        reader.over_ceiling.map_or(Ok(()), |place| Err((6, place)))
+    }
+}
