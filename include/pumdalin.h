@@ -31,7 +31,7 @@ enum { PUMDALIN_AREA_LENGTH = 24 };
  * The sheet is only read, and nothing past its length. Sheet and area must not overlap, and neither
  * pointer may be null, even where its length is 0. Nothing is allocated or kept between calls; the
  * call is reentrant. It always ends: it works through at most budget + 1 visits, each of which passes
- * at most 64 records. 20 KB of stack suffice. */
+ * at most 64 records. 10 KB of stack suffice. */
 uint32_t pumdalin_figures(const uint8_t *sheet, size_t sheet_length,
                           int16_t p1, int16_t p2, int16_t p3, int16_t p4,
                           uint32_t budget,
