@@ -23,7 +23,7 @@ const NO_STRING_INSTRUCTIONS: &str = "glibc.cpu.x86_rep_stosb_threshold=1048576:
 fn of_run(count: usize, sheet: usize, call: usize) -> Option<u64> {
     let program = std::env::current_exe().expect("this program");
     let words = [count, sheet, call].map(|number| number.to_string());
-    let said = Command::new("valgrind")
+    let run = Command::new("valgrind")
         .env("GLIBC_TUNABLES", NO_STRING_INSTRUCTIONS)
         .args(["--tool=callgrind", "--callgrind-out-file=/dev/null"])
         .arg(program)
@@ -31,8 +31,8 @@ fn of_run(count: usize, sheet: usize, call: usize) -> Option<u64> {
         .args(words)
         .output()
         .ok()?;
-    let said = String::from_utf8_lossy(&said.stderr).into_owned();
-    said.split("Collected : ").nth(1)?.split_whitespace().next()?.parse().ok()
+    let output = String::from_utf8_lossy(&run.stderr).into_owned();
+    output.split("Collected : ").nth(1)?.split_whitespace().next()?.parse().ok()
 }
 
 /// Those of one call: a run of two calls less a run of one. None where there is no valgrind.

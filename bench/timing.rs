@@ -14,8 +14,9 @@ pub fn opaque<T>(mut value: T) -> T {
     value
 }
 
-/// How often a call fits into a round.
+/// How often a call fits into a round, by one call after an untimed one.
 fn repeats(call: &impl Fn()) -> u128 {
+    call();
     let started = Instant::now();
     call();
     (NANOSECONDS_A_ROUND / started.elapsed().as_nanos().max(1)).clamp(1, 1_000_000)

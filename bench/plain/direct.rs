@@ -1,11 +1,11 @@
 //! The figures by recursion over the records, with no stages: each entry of a loop works through the trips to be visited.
 use super::newton;
-use super::plan::{Plan, Refused, CHOICE, LOOP, WORK};
+use super::plan::{Plan, Refused, CHOICE, DEEPEST, LOOP, WORK};
 use super::sums::{hull, plus, Sums};
 
 struct Walk<'a> {
     plan: &'a Plan,
-    counters: [i64; 4],
+    counters: [i64; DEEPEST],
     visits: u64,
     budget: u64,
 }
@@ -33,7 +33,7 @@ impl Walk<'_> {
         let [start, step] = self.plan.records[at].costs.map(u64::from);
         let entered = &self.plan.loops[self.plan.records[at].number as usize];
         let trips = entered.trips(&self.counters);
-        let mut visited = [[0; 2]; 4];
+        let mut visited = [[0; 2]; DEEPEST];
         let mut total = [start; 2];
         let count = entered.visited(trips);
         for counter in 0..count {
@@ -67,7 +67,7 @@ impl Walk<'_> {
 pub fn figures(sheet: &[u8], parameters: [i16; 4], budget: u32) -> Result<[u64; 3], Refused> {
     let mut plan = Plan::new();
     plan.fill(sheet, parameters, budget)?;
-    let mut walk = Walk { plan: &plan, counters: [0; 4], visits: 0, budget: budget as u64 };
+    let mut walk = Walk { plan: &plan, counters: [0; DEEPEST], visits: 0, budget: budget as u64 };
     let ([least, most], _) = walk.body(0);
     if walk.visits > budget as u64 {
         return Err((8, 0));
@@ -80,5 +80,5 @@ pub fn trip_by_trip(sheet: &[u8], parameters: [i16; 4]) -> Result<Sums, Refused>
     let mut plan = Plan::new();
     plan.fill(sheet, parameters, 1)?;
     plan.loops.iter_mut().for_each(|l| l.limit = 0);
-    Ok(Walk { plan: &plan, counters: [0; 4], visits: 0, budget: u64::MAX }.body(0).0)
+    Ok(Walk { plan: &plan, counters: [0; DEEPEST], visits: 0, budget: u64::MAX }.body(0).0)
 }

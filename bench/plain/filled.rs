@@ -22,6 +22,7 @@ impl<T: Copy, const N: usize> Filled<T, N> {
     }
 
     pub fn pop(&mut self) {
+        assert!(self.length > 0);
         self.length -= 1;
     }
 }

@@ -1,4 +1,5 @@
 //! The bounds of loops: a constant and factors of the indexes around.
+use super::plan::DEEPEST;
 
 #[derive(Clone, Copy)]
 pub struct Form {
@@ -25,12 +26,12 @@ impl Form {
     }
 
     /// Its factors times these values; the constant does not count.
-    pub fn dot(&self, values: &[i64; 4]) -> i64 {
+    pub fn dot(&self, values: &[i64; DEEPEST]) -> i64 {
         (0..3).map(|i| self.index[i] * values[i]).sum()
     }
 
     /// Its smallest and its largest value where the indexes lie in these ranges.
-    pub fn range(&self, lo: &[i64; 4], hi: &[i64; 4]) -> (i64, i64) {
+    pub fn range(&self, lo: &[i64; DEEPEST], hi: &[i64; DEEPEST]) -> (i64, i64) {
         let (mut least, mut most) = (self.constant, self.constant);
         for i in 0..3 {
             let (a, b) = (self.index[i] * lo[i], self.index[i] * hi[i]);

@@ -11,16 +11,16 @@ pub const END: u8 = 3;
 pub const CHOICE: u8 = 4;
 pub const NEXT_ARM: u8 = 5;
 
-const RECORDS: usize = 64;
-const MOST_OPEN: usize = 8;
-const DEEPEST: usize = 4;
+const MOST_RECORDS: usize = 64;
+pub const MOST_OPEN: usize = 8;
+pub const DEEPEST: usize = 4;
 const MOST_CYCLES: u16 = 4095;
 const MOST_TRIPS: i64 = 2048;
 
 #[derive(Clone, Copy)]
 pub struct Record {
     pub kind: u8,
-    /// How many records are open around it.
+    /// How many records are open around it: the number of its frame, where it opens one.
     pub opened: u8,
     /// The record that opened what this one closes, or the end of what it opens.
     pub partner: u8,
@@ -44,7 +44,7 @@ pub struct Loop {
 }
 
 impl Loop {
-    pub fn trips(&self, counters: &[i64; 4]) -> u64 {
+    pub fn trips(&self, counters: &[i64; DEEPEST]) -> u64 {
         let pushed: i64 = (0..3).map(|m| self.pushes[m] * counters[m]).sum();
         match self.base + pushed {
             d if d < 0 => 0,
@@ -60,8 +60,8 @@ impl Loop {
 }
 
 pub struct Plan {
-    pub records: Filled<Record, RECORDS>,
-    pub loops: Filled<Loop, RECORDS>,
+    pub records: Filled<Record, MOST_RECORDS>,
+    pub loops: Filled<Loop, MOST_RECORDS>,
 }
 
 /// What is known of the open loops, by depth.
@@ -76,7 +76,13 @@ struct Around {
 }
 
 impl Around {
-    const NONE: Around = Around { numbers: [0; 4], lo: [0; 4], hi: [0; 4], start: [0; 4], pushes: [[0; 4]; 4] };
+    const NONE: Around = Around {
+        numbers: [0; DEEPEST],
+        lo: [0; DEEPEST],
+        hi: [0; DEEPEST],
+        start: [0; DEEPEST],
+        pushes: [[0; DEEPEST]; DEEPEST],
+    };
 
     /// Enters a loop at this depth: the loop, and the smallest and the largest value of its upper minus its lower bound.
     fn enter(&mut self, depth: usize, number: usize, stride: i64, lower: &Form, upper: &Form) -> (Loop, i64, i64) {
@@ -101,7 +107,7 @@ impl Around {
     }
 
     /// What a loop means for the loops around it: it keeps them from being closed, or they visit a trip more for it.
-    fn limit(&self, inner: &Loop, smallest: i64, choice_depth: usize, loops: &mut [Loop]) {
+    fn limit_outer(&self, inner: &Loop, smallest: i64, choice_depth: usize, loops: &mut [Loop]) {
         let mut even = smallest >= -inner.stride;
         for depth in (0..inner.depth).rev() {
             even = even && (inner.stride == 1 || inner.pushes[depth] % inner.stride == 0);
@@ -169,7 +175,7 @@ impl Reader<'_> {
         if largest >= MOST_TRIPS * stride && self.over_ceiling.is_none() {
             self.over_ceiling = Some(at);
         }
-        self.around.limit(&entered, smallest, choice_depth, &mut self.plan.loops);
+        self.around.limit_outer(&entered, smallest, choice_depth, &mut self.plan.loops);
         self.plan.loops.push(entered);
         self.depth += 1;
         Ok(())
@@ -220,7 +226,7 @@ impl Plan {
             Reader { plan: self, parameters, around: Around::NONE, open: Filled::new(), depth: 0, over_ceiling: None };
         let mut at = 0;
         while at < sheet.len() {
-            if reader.plan.records.len() == RECORDS {
+            if reader.plan.records.len() == MOST_RECORDS {
                 return Err((4, at));
             }
             let kind = sheet[at];

@@ -1,7 +1,7 @@
 //! The figures by stages, each from the start of one visit to the start of the next, as document 01 has them:
 //! with the state by value, or changed in its place.
 use super::newton;
-use super::plan::{Plan, Record, Refused, CHOICE, LOOP, NEXT_ARM, WORK};
+use super::plan::{Plan, Record, Refused, CHOICE, DEEPEST, LOOP, MOST_OPEN, NEXT_ARM, WORK};
 use super::sums::{hull, plus, Sums};
 
 #[derive(Clone, Copy, Default)]
@@ -17,14 +17,14 @@ struct State {
     at: usize,
     sums: Sums,
     visits: u64,
-    counters: [i64; 4],
-    frames: [Frame; 8],
-    /// The trips kept of a closed loop: three of one at depth 1, two at depth 2, one at depth 3.
+    counters: [i64; DEEPEST],
+    frames: [Frame; MOST_OPEN],
+    /// The trips kept of a closed loop: three of an outermost one, two of one inside that, one of the next.
     kept: [Sums; 6],
 }
 
-/// Where the kept trips of a loop at each depth begin.
-const KEPT_FROM: [usize; 4] = [0, 3, 5, 6];
+/// Where the kept trips of a loop begin, by the number of loops around it.
+const KEPT_FROM: [usize; DEEPEST] = [0, 3, 5, 6];
 
 impl State {
     fn begin(&mut self, at: usize) {
@@ -88,7 +88,7 @@ impl State {
             return true;
         }
         if open.limit != 0 {
-            let mut visited = [self.sums; 4];
+            let mut visited = [self.sums; DEEPEST];
             visited[..counter].copy_from_slice(&kept[..counter]);
             frame.passed = newton::sums(trips, counter as u64 + 1, &visited);
         }

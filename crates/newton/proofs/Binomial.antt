@@ -35,7 +35,7 @@ module _ (n k trips this left : ℕ) (d : trips ≡ n) (e : this ≡ choose n k)
       fewer : left ≤ 2048
       fewer = omega arith
 
--- the struct from its four weights, each of which is known, is not, or is asked for
+-- the struct from its four weights, each of which is known, is not, or is taken if it is
 module _ (n known : ℕ) where
   pub weight-known : (order given : ℕ) → order ≤ known → given ≡ choose n order → given ≡ weight n known order
   weight-known order given h e = rw (le-leb order known h) e
@@ -43,8 +43,8 @@ module _ (n known : ℕ) where
   pub weight-unknown : (order : ℕ) → known < order → 0 ≡ weight n known order
   weight-unknown order h = rw (lt-leb order known h)
 
-  pub weight-asked : (order given r : ℕ) → given ≡ choose n order → r ≡ cond (leb order known) given 0 → r ≡ weight n known order
-  weight-asked order given r e f = f ∙ ap (λ (w : ℕ). cond (leb order known) w 0) e
+  pub weight-if-known : (order given r : ℕ) → given ≡ choose n order → r ≡ cond (leb order known) given 0 → r ≡ weight n known order
+  weight-if-known order given r e f = f ∙ ap (λ (w : ℕ). cond (leb order known) w 0) e
 
   pub weights-are : (one two three four : ℕ) → one ≡ weight n known 1 → two ≡ weight n known 2 → three ≡ weight n known 3 → four ≡ weight n known 4
       → record { one = one; two = two; three = three; four = four } ≡ weightsOf n known

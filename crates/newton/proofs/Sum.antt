@@ -38,7 +38,7 @@ weights-newton n known (a ∷ b ∷ c ∷ []) few e = absurd (omega arith)
 weights-newton n known (a ∷ b ∷ c ∷ d ∷ []) few e = sym (newtonSum-padded n known (pos a) (pos b) (pos c) (pos d) few)
 weights-newton n known (a ∷ b ∷ c ∷ d ∷ x ∷ p) few e = absurd (omega arith)
 
--- what callers learn of the two functions' contracts together
+-- what the contracts of `weights_of` and `weighted_sum` say together
 module _ (n known : ℕ) (w : Weights) (p : List ℕ) (r : ℕ) (few : n ≤ 2048) (fits : known ≤ 4) (four : length p ≡ 4)
     (weights : w ≡ weightsOf (min n 2048) known) (result : r ≡ floorRemainder (weightedSum w p) (2 ^ 64)) where
   -- the result is Newton's sum modulo 2^64

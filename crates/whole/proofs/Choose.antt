@@ -7,14 +7,14 @@ use native.Mathlib.Decide.{decLe}
 use Rattle.whole.specs.Newton.{choose}
 
 -- C(n, k + 1) from C(n, k), with no subtraction
-pub choose-next : (n k : ℕ) → choose n (suc k) * suc k + choose n k * k ≡ choose n k * n
+choose-next : (n k : ℕ) → choose n (suc k) * suc k + choose n k * k ≡ choose n k * n
 unfolding choose
 choose-next zero zero = refl
 choose-next zero (suc k) = omega arith
 choose-next (suc n) zero = omega (arith, choose-next n zero)
 choose-next (suc n) (suc k) = omega (arith, choose-next n k, choose-next n (suc k))
 
-pub choose-none : (n k : ℕ) → n < k → choose n k ≡ 0
+choose-none : (n k : ℕ) → n < k → choose n k ≡ 0
 unfolding choose
 choose-none n zero h = omega arith
 choose-none zero (suc k) h = refl
@@ -34,10 +34,10 @@ choose-step n k = by-order (decLe k n)
     by-order (yes h) = within (choose n k) (choose n (suc k)) (n - k) (choose-next n k) (omega arith)
     by-order (no h) = beyond (choose n k) (choose n (suc k)) (n - k) (choose-none n k (omega arith)) (choose-none n (suc k) (omega arith))
 
-pub choose-one : (n : ℕ) → choose n 1 ≡ n
-unfolding choose
-choose-one n = omega (arith, choose-next n 0)
-
 -- the same as a quotient; the division is exact
 pub choose-quotient : (n k : ℕ) → choose n k * (n - k) / suc k ≡ choose n (suc k)
 choose-quotient n k = div-eq-of-eq-mul-left (omega arith) (sym (choose-step n k))
+
+pub choose-one : (n : ℕ) → choose n 1 ≡ n
+unfolding choose
+choose-one n = omega (arith, choose-next n 0)

@@ -2,7 +2,7 @@ use mathlib.Core.Path.{sym, _∙_}
 use borrow.Author.Needs.{needs}
 use native.Mathlib.Omega.{arith}
 use Rattle.whole.proofs.Choose.{choose-one}
-use Rattle.newton.proofs.Binomial.{next-is, next-size, weight-known, weight-unknown, weight-asked, weights-are}
+use Rattle.newton.proofs.Binomial.{next-is, next-size, weight-known, weight-unknown, weight-if-known, weights-are}
 use Rattle.newton.proofs.weights_of.Statement.{statement}
 use Rattle.newton.proofs.weights_of.Tie as tie
 
@@ -17,7 +17,7 @@ returns c =
     let b = c .before .before in
     let known = b .before .args .known in
     weights-are _ known _ _ _ _
-    (weight-asked _ known 1 _ _ (b .within .ensures ∙ sym (choose-one _)) (c .if-known .ensures))
+    (weight-if-known _ known 1 _ _ (b .within .ensures ∙ sym (choose-one _)) (c .if-known .ensures))
     (weight-unknown _ known 2 (omega arith))
     (weight-unknown _ known 3 (omega arith))
     (weight-unknown _ known 4 (omega arith))
@@ -59,8 +59,8 @@ returns-2 c =
     weights-are _ known _ _ _ _
     (weight-known _ known 1 _ (omega arith) (one ∙ sym (choose-one _)))
     (weight-known _ known 2 _ (omega arith) two)
-    (weight-asked _ known 3 _ _ three (k .if-known2 .ensures))
-    (weight-asked _ known 4 _ _ (next-is _ 3 _ _ _ one three (l2 .less2 .ensures)) (c .if-known3 .ensures))
+    (weight-if-known _ known 3 _ _ three (k .if-known2 .ensures))
+    (weight-if-known _ known 4 _ _ (next-is _ 3 _ _ _ one three (l2 .less2 .ensures)) (c .if-known3 .ensures))
 
 pub weights-of-spec : {M : Type 1} → statement M
 weights-of-spec =
