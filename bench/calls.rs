@@ -20,8 +20,6 @@ pub const PLAIN: [Call; 3] = [
     Call { name: "by value", figures: |sheet, p, budget| stages::by_value(sheet, p, budget).map_err(|r| r.0) },
 ];
 
-pub const LARGEST_BUDGET: u32 = 1_000_000;
-
 fn proved(sheet: &[u8], p: [i16; 4], budget: u32) -> Answer {
     pumdalin::figures(sheet, p, budget).map(|f| [f.least, f.most, f.visits])
 }

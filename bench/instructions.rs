@@ -1,7 +1,8 @@
 //! Instructions of a call, counted by callgrind: the same in every run, whatever else the machine does.
-use crate::calls::{self, LARGEST_BUDGET};
+use crate::calls;
+use crate::plain::LARGEST_BUDGET;
 use crate::sheets::sheets;
-use crate::timing::opaque;
+use crate::timing;
 use std::process::Command;
 
 /// The argument by which this program runs so many calls of a sheet and nothing else.
@@ -11,8 +12,9 @@ pub const ONLY_CALLS: &str = "--only-calls";
 pub fn run_only(words: &[String]) {
     let numbers: Vec<usize> = words.iter().map(|word| word.parse().expect("a number")).collect();
     let (_, sheet, _) = &sheets()[numbers[1]];
+    let call = timing::run(calls::all()[numbers[2]], sheet, LARGEST_BUDGET);
     for _ in 0..numbers[0] {
-        let _ = opaque(calls::all()[numbers[2]].at_zero(opaque(sheet), LARGEST_BUDGET));
+        call();
     }
 }
 

@@ -7,8 +7,8 @@ mod pumdalin;
 mod sheets;
 mod timing;
 
-use calls::{LARGEST_BUDGET, PLAIN, PROVED};
-use plain::direct;
+use calls::{PLAIN, PROVED};
+use plain::{direct, LARGEST_BUDGET};
 use sheets::sheets;
 
 /// All calls against each other on the stored cases.

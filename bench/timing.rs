@@ -1,6 +1,6 @@
 //! Times of calls, in nanoseconds.
-use crate::calls::{self, Call, LARGEST_BUDGET};
-use crate::plain::direct;
+use crate::calls::{self, Call};
+use crate::plain::{direct, LARGEST_BUDGET};
 use std::arch::asm;
 use std::time::Instant;
 
@@ -8,7 +8,7 @@ const ROUNDS: usize = 15;
 const NANOSECONDS_A_ROUND: u128 = 30_000_000;
 
 /// The value, which the compiler has to take for read and changed here: `std::hint::black_box`, which Rust has from 1.66 on.
-pub fn opaque<T>(mut value: T) -> T {
+fn opaque<T>(mut value: T) -> T {
     // SAFETY: it has no instruction; its operand is the address of a value that is there.
     unsafe { asm!("/* {} */", in(reg) std::ptr::addr_of_mut!(value), options(nostack, preserves_flags)) };
     value
@@ -38,7 +38,8 @@ fn best(calls: &[impl Fn()]) -> Vec<f64> {
     least
 }
 
-fn run(call: Call, sheet: &[u8], budget: u32) -> impl Fn() + '_ {
+/// One call, of which the compiler can drop nothing.
+pub fn run(call: Call, sheet: &[u8], budget: u32) -> impl Fn() + '_ {
     move || {
         let _ = opaque(call.at_zero(opaque(sheet), budget));
     }

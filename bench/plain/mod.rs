@@ -6,3 +6,5 @@ mod newton;
 mod plan;
 pub mod stages;
 mod sums;
+
+pub use plan::LARGEST_BUDGET;

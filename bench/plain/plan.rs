@@ -15,7 +15,9 @@ const MOST_RECORDS: usize = 64;
 pub const MOST_OPEN: usize = 8;
 pub const DEEPEST: usize = 4;
 const MOST_CYCLES: u16 = 4095;
+const LARGEST_STRIDE: i64 = 1000;
 const MOST_TRIPS: i64 = 2048;
+pub const LARGEST_BUDGET: u32 = 1_000_000;
 
 #[derive(Clone, Copy)]
 pub struct Record {
@@ -167,7 +169,7 @@ impl Reader<'_> {
         let lower = Form::read(&body[6..15], self.parameters);
         let upper = Form::read(&body[15..24], self.parameters);
         let enclosed = lower.enclosed_by(self.depth) && upper.enclosed_by(self.depth);
-        if costs[0] > MOST_CYCLES || costs[1] > MOST_CYCLES || !(1..=1000).contains(&stride) || !enclosed {
+        if costs[0] > MOST_CYCLES || costs[1] > MOST_CYCLES || !(1..=LARGEST_STRIDE).contains(&stride) || !enclosed {
             return Err(3);
         }
         self.opens(LOOP, choice_depth)?;
@@ -219,7 +221,7 @@ impl Plan {
     }
 
     pub fn fill(&mut self, sheet: &[u8], parameters: [i16; 4], budget: u32) -> Result<(), Refused> {
-        if budget == 0 || budget > 1_000_000 {
+        if budget == 0 || budget > LARGEST_BUDGET {
             return Err((7, 0));
         }
         let mut reader =

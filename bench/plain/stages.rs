@@ -102,6 +102,8 @@ impl State {
 fn stage(plan: &Plan, s: &mut State) {
     while s.at < plan.records.len() {
         let record = &plan.records[s.at];
+        // What an end or a next arm belongs to; looked up for these alone.
+        let opener = || &plan.records[record.partner as usize];
         match record.kind {
             WORK => s.sums = plus(s.sums, record.costs.map(u64::from)),
             LOOP => {
@@ -111,10 +113,8 @@ fn stage(plan: &Plan, s: &mut State) {
                 continue;
             }
             CHOICE => s.open(record.opened),
-            NEXT_ARM => s.pass_arm(plan.records[record.partner as usize].opened),
-            _ if plan.records[record.partner as usize].kind == CHOICE => {
-                s.leave_choice(plan.records[record.partner as usize].opened)
-            }
+            NEXT_ARM => s.pass_arm(opener().opened),
+            _ if opener().kind == CHOICE => s.leave_choice(opener().opened),
             _ => {
                 if s.end_trip(plan, record.partner as usize) {
                     return;
