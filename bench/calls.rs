@@ -24,13 +24,6 @@ fn proved(sheet: &[u8], p: [i16; 4], budget: u32) -> Answer {
     pumdalin::figures(sheet, p, budget).map(|f| [f.least, f.most, f.visits])
 }
 
-impl Call {
-    /// A call at parameters 0.
-    pub fn at_zero(&self, sheet: &[u8], budget: u32) -> Answer {
-        (self.figures)(sheet, [0; 4], budget)
-    }
-}
-
 /// The proved call and the plain ones, in the order of the columns.
 pub fn all() -> [Call; 4] {
     let [direct, in_place, by_value] = PLAIN;

@@ -1,18 +1,18 @@
 //! Instructions of a call, counted by callgrind: the same in every run, whatever else the machine does.
 use crate::calls;
 use crate::plain::LARGEST_BUDGET;
-use crate::sheets::sheets;
+use crate::sheets::timed;
 use crate::timing;
 use std::process::Command;
 
-/// The argument by which this program runs so many calls of a sheet and nothing else.
+/// The argument by which this program runs what is timed so often and does nothing else.
 pub const ONLY_CALLS: &str = "--only-calls";
 
-/// Runs what `ONLY_CALLS` names: how many calls, of which sheet, by which of the calls.
+/// Runs what `ONLY_CALLS` names: how often, which of what is timed, by which of the calls.
 pub fn run_only(words: &[String]) {
     let numbers: Vec<usize> = words.iter().map(|word| word.parse().expect("a number")).collect();
-    let (_, sheet, _) = &sheets()[numbers[1]];
-    let call = timing::run(calls::all()[numbers[2]], sheet, LARGEST_BUDGET);
+    let given = &timed()[numbers[1]].given;
+    let call = timing::run(calls::all()[numbers[2]], given, LARGEST_BUDGET);
     for _ in 0..numbers[0] {
         call();
     }
@@ -22,9 +22,9 @@ pub fn run_only(words: &[String]) {
 const NO_STRING_INSTRUCTIONS: &str = "glibc.cpu.x86_rep_stosb_threshold=1048576:glibc.cpu.x86_rep_movsb_threshold=1048576";
 
 /// The instructions of a whole run of this program.
-fn of_run(count: usize, sheet: usize, call: usize) -> Option<u64> {
+fn of_run(count: usize, number: usize, call: usize) -> Option<u64> {
     let program = std::env::current_exe().expect("this program");
-    let words = [count, sheet, call].map(|number| number.to_string());
+    let words = [count, number, call].map(|number| number.to_string());
     let run = Command::new("valgrind")
         .env("GLIBC_TUNABLES", NO_STRING_INSTRUCTIONS)
         .args(["--tool=callgrind", "--callgrind-out-file=/dev/null"])
@@ -38,6 +38,6 @@ fn of_run(count: usize, sheet: usize, call: usize) -> Option<u64> {
 }
 
 /// Those of one call: a run of two calls less a run of one. None where there is no valgrind.
-pub fn of_call(sheet: usize, call: usize) -> Option<f64> {
-    Some((of_run(2, sheet, call)? - of_run(1, sheet, call)?) as f64)
+pub fn of_call(number: usize, call: usize) -> Option<f64> {
+    Some((of_run(2, number, call)? - of_run(1, number, call)?) as f64)
 }

@@ -9,7 +9,7 @@ mod timing;
 
 use calls::{PLAIN, PROVED};
 use plain::{direct, LARGEST_BUDGET};
-use sheets::sheets;
+use sheets::{timed, Given};
 
 /// All calls against each other on the stored cases.
 fn agree(path: &str) -> usize {
@@ -37,8 +37,8 @@ fn agree(path: &str) -> usize {
     count
 }
 
-fn visits_of(sheet: &[u8]) -> u64 {
-    PROVED.at_zero(sheet, LARGEST_BUDGET).expect("figures")[2]
+fn visits_of(given: &[Given]) -> u64 {
+    given.iter().map(|(sheet, p)| (PROVED.figures)(sheet, *p, LARGEST_BUDGET).expect("figures")[2]).sum()
 }
 
 fn print_head(what: &str) {
@@ -59,20 +59,20 @@ fn print_numbers(name: &str, numbers: &[f64], decimals: usize) {
 fn print_calls() {
     print_head("a call, ns");
     println!(" {:>13} {:>7}", "trip by trip", "visits");
-    for (name, sheet, few_trips) in sheets() {
-        print_numbers(name, &timing::of_calls(&sheet), 0);
-        let trips = if few_trips { format!("{:.0}", timing::of_every_trip(&sheet)) } else { "-".to_string() };
-        println!(" {trips:>13} {:7}", visits_of(&sheet));
+    for t in timed() {
+        print_numbers(t.name, &timing::of_calls(&t.given), 0);
+        let trips = if t.few_trips { format!("{:.0}", timing::of_every_trip(&t.given)) } else { "-".to_string() };
+        println!(" {trips:>13} {:7}", visits_of(&t.given));
     }
 }
 
 fn print_stages() {
     print_head("a stage, ns");
     println!();
-    for (name, sheet, _) in sheets() {
-        let visits = visits_of(&sheet);
-        if visits >= 10 {
-            print_numbers(name, &timing::of_stages(&sheet, visits), 1);
+    for t in timed() {
+        let visits = visits_of(&t.given);
+        if visits >= 10 && t.given.len() == 1 {
+            print_numbers(t.name, &timing::of_stages(&t.given, visits), 1);
             println!();
         }
     }
@@ -81,10 +81,10 @@ fn print_stages() {
 fn print_instructions() {
     print_head("a call, instructions");
     println!();
-    for (number, (name, _, _)) in sheets().iter().enumerate() {
+    for (number, t) in timed().iter().enumerate() {
         let counts: Option<Vec<f64>> = (0..=PLAIN.len()).map(|call| instructions::of_call(number, call)).collect();
         match counts {
-            Some(counts) => print_numbers(name, &counts, 0),
+            Some(counts) => print_numbers(t.name, &counts, 0),
             None => return println!("not counted: there is no valgrind"),
         }
         println!();

@@ -1,4 +1,4 @@
-//! The sheets that are timed.
+//! The calls that are timed.
 
 fn form(constant: i16, index: [i8; 3]) -> Vec<u8> {
     let mut bytes = constant.to_le_bytes().to_vec();
@@ -21,8 +21,42 @@ fn slanted(trips: i16) -> Vec<u8> {
     factors.iter().flat_map(|f| a_loop(form(0, *f), form(trips - 1, *f))).collect()
 }
 
-/// A name, the sheet, and whether its trips can be gone through one by one.
-pub fn sheets() -> Vec<(&'static str, Vec<u8>, bool)> {
+/// A sheet, and the parameters that it is called with.
+pub type Given = (Vec<u8>, [i16; 4]);
+
+pub struct Timed {
+    pub name: &'static str,
+    /// The calls, one after another.
+    pub given: Vec<Given>,
+    /// Whether the trips can be gone through one by one.
+    pub few_trips: bool,
+}
+
+/// One call at parameters 0.
+fn one(name: &'static str, sheet: Vec<u8>) -> Timed {
+    Timed { name, given: vec![(sheet, [0; 4])], few_trips: true }
+}
+
+fn bytes(hexadecimal: &str) -> Vec<u8> {
+    (0..hexadecimal.len()).step_by(2).map(|i| u8::from_str_radix(&hexadecimal[i..i + 2], 16).expect("two digits")).collect()
+}
+
+/// The sheets with known figures, with parameter 1.
+const KNOWN: [(&str, i16); 11] = [
+    ("", 0),
+    ("02020001000100000000000000000000090000000000000000010300050003", 0),
+    ("0200000000010000000000000000000009000000000000000002000000000100000000000000000000ffff0100000000000001010001000303", 0),
+    ("020000000001000100000000000000000700000000000000000200000000010000000100000000000002000000000000000001010001000303", 0),
+    ("020000000001000000000000000000000900000000000000000200000000020000000000000000000000000100000000000001010001000303", 0),
+    ("020000000002000000000000000000001200000000000000000200000000020000000000000000000000000100000000000001010001000303", 0),
+    ("02000000000100000000000000000000090000000000000000020000000001000000010000000000000a000000000000000002000000000100fdff010000000000000700000100000000000101000100030303", 0),
+    ("020000000001000100000000000000000000000000010000000200000000010000000100000000000000000000000100000001010001000303", 100),
+    ("020000000001000100000000000000000000000000010000000200000000010000000100000000000000000000000100000001010001000303", 0),
+    ("020000000001000000000000000000000900000000000000000402000000000100000000000000000000ffff010000000000000101000100030501040004000303", 0),
+    ("02000000000300000000000000000000ffff00000000000000010100010003", 0),
+];
+
+pub fn timed() -> Vec<Timed> {
     let work = vec![1, 3, 0, 5, 0];
     let triangle = [a_loop(form(0, [0; 3]), form(9, [0; 3])), a_loop(form(0, [0; 3]), form(-1, [1, 0, 0]))].concat();
     let walked = |trips: i16| [a_loop(form(0, [0; 3]), form(trips - 1, [0; 3])), vec![4]].concat();
@@ -30,12 +64,22 @@ pub fn sheets() -> Vec<(&'static str, Vec<u8>, bool)> {
     let arm = [a_loop(form(0, [0; 3]), form(-1, [1, 0, 0])), work.clone(), vec![3, 5]].concat();
     let halves = [a_loop(form(0, [0; 3]), form(9, [0; 3])), a_loop_by(2, form(0, [0; 3]), form(0, [1, 0, 0]))].concat();
     vec![
-        ("one loop of ten trips", [a_loop(form(0, [0; 3]), form(9, [0; 3])), work.clone(), vec![3]].concat(), true),
-        ("triangle", [triangle, work.clone(), vec![3, 3]].concat(), true),
-        ("small walked nest", [halves, work.clone(), vec![3, 3]].concat(), true),
-        ("64 records, plan only", [slanted(0), vec![3; 4]].concat().repeat(8), true),
-        ("64 records, four deep, 2^44 trips", [slanted(2048), work.repeat(56), vec![3; 4]].concat(), false),
-        ("walked, 600,300 visits", [walked(300), walked(1000), inner, vec![3; 4]].concat(), true),
-        ("choices that hold loops", [walked(100), arm, work, vec![3; 2]].concat(), true),
+        one("empty sheet", vec![]),
+        one("one loop of ten trips", [a_loop(form(0, [0; 3]), form(9, [0; 3])), work.clone(), vec![3]].concat()),
+        one("triangle", [triangle, work.clone(), vec![3, 3]].concat()),
+        one("small walked nest", [halves, work.clone(), vec![3, 3]].concat()),
+        Timed {
+            name: "the 11 known calls, together",
+            given: KNOWN.iter().map(|(sheet, p1)| (bytes(sheet), [*p1, 0, 0, 0])).collect(),
+            few_trips: true,
+        },
+        one("64 works", work.repeat(64)),
+        one("64 records, plan only", [slanted(0), vec![3; 4]].concat().repeat(8)),
+        Timed {
+            few_trips: false,
+            ..one("64 records, four deep, 2^44 trips", [slanted(2048), work.repeat(56), vec![3; 4]].concat())
+        },
+        one("walked, 600,300 visits", [walked(300), walked(1000), inner, vec![3; 4]].concat()),
+        one("choices that hold loops", [walked(100), arm, work, vec![3; 2]].concat()),
     ]
 }

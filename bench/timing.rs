@@ -1,6 +1,7 @@
 //! Times of calls, in nanoseconds.
 use crate::calls::{self, Call};
 use crate::plain::{direct, LARGEST_BUDGET};
+use crate::sheets::Given;
 use std::arch::asm;
 use std::time::Instant;
 
@@ -38,28 +39,32 @@ fn best(calls: &[impl Fn()]) -> Vec<f64> {
     least
 }
 
-/// One call, of which the compiler can drop nothing.
-pub fn run(call: Call, sheet: &[u8], budget: u32) -> impl Fn() + '_ {
+/// The calls, one after another, of which the compiler can drop nothing.
+pub fn run(call: Call, given: &[Given], budget: u32) -> impl Fn() + '_ {
     move || {
-        let _ = opaque(call.at_zero(opaque(sheet), budget));
+        for (sheet, p) in given {
+            let _ = opaque((call.figures)(opaque(sheet), *p, budget));
+        }
     }
 }
 
 /// The proved call's time, and those of the plain ones.
-pub fn of_calls(sheet: &[u8]) -> Vec<f64> {
-    best(&calls::all().map(|call| run(call, sheet, LARGEST_BUDGET)))
+pub fn of_calls(given: &[Given]) -> Vec<f64> {
+    best(&calls::all().map(|call| run(call, given, LARGEST_BUDGET)))
 }
 
 /// The same of one stage. A call with budget 1 stops after two, so that the difference of two calls is that of the others alone.
-pub fn of_stages(sheet: &[u8], visits: u64) -> Vec<f64> {
-    let runs: Vec<_> = calls::all().iter().flat_map(|call| [LARGEST_BUDGET, 1].map(|budget| run(*call, sheet, budget))).collect();
+pub fn of_stages(given: &[Given], visits: u64) -> Vec<f64> {
+    let runs: Vec<_> = calls::all().iter().flat_map(|call| [LARGEST_BUDGET, 1].map(|budget| run(*call, given, budget))).collect();
     best(&runs).chunks(2).map(|times| (times[0] - times[1]) / (visits - 1) as f64).collect()
 }
 
 /// Plain Rust that goes over every trip.
-pub fn of_every_trip(sheet: &[u8]) -> f64 {
+pub fn of_every_trip(given: &[Given]) -> f64 {
     let walk = || {
-        let _ = opaque(direct::trip_by_trip(opaque(sheet), [0; 4]));
+        for (sheet, p) in given {
+            let _ = opaque(direct::trip_by_trip(opaque(sheet), *p));
+        }
     };
     best(&[walk])[0]
 }

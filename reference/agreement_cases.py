@@ -13,8 +13,6 @@ from generate import SIZES, Case, cases
 from listing_reader import read_listing
 from nest import encode_parameters
 
-READINGS = Path(__file__).parent / "readings.txt"
-
 # What stands before and after the area; answers.c has the same length.
 GUARD = bytes(range(0x51, 0x61))
 NUMBER_LENGTH = 4
@@ -52,9 +50,9 @@ def listing_calls(path: Path) -> list[Call]:
 
 
 def kept_calls() -> list[Call]:
-    """The readings file, and the cases of the C call."""
+    """The readings, the telling sheets, and the cases of the C call."""
     calls: list[Call] = []
-    for line in readings.parse_file(str(READINGS)):
+    for line in readings.parse_file(readings.READINGS) + readings.parse_file(readings.TELLING):
         case = Case("reading", line.sheet, line.parameters, line.budget)
         calls.append(Call(f"reading '{line.tells}'", case, bytes(ANSWER_LENGTH), line.answer))
     for kept in C_CALL_CASES:

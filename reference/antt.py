@@ -57,34 +57,46 @@ NAME = {
     "returns": "Returns",
 }
 
-# Lines at the top of each file, after its own comment.
+# Lines at the top of each file, after its own comment. Inside `meaning` its files go by other
+# names than from elsewhere.
 LIST = "use mathlib.Core.List.{[], _∷_}"
+POSITIVE = "use lib.IntN.{pos}"
 INTEGER = "use lib.IntN.{pos, negsuc}"
-SPECS = "use Rattle.meaning.specs."
-PROOFS = "use Rattle.meaning.proofs."
 PATH = "use mathlib.Core.Path.{_≡_, refl}"
-COMPUTES = PROOFS + "Computes.{computes}"
-ANSWER = [
-    SPECS + "Answer.{figures, answer}",
-    PROOFS + "Vocabulary.{hex, zeroParameters, closedLoop, walkedLoop, sheetReportsOf}",
-    COMPUTES,
-]
+SPECS = "use Rattle.meaning.specs."
+PROOFS = "use Rattle.meaning.proofs."
+INSIDE_SPECS = "use Rattle.meaning.specs."
+INSIDE_PROOFS = "use Rattle.meaning.proofs."
+
+
+def answer_lines(specs: str, proofs: str, results: str) -> list[str]:
+    """What a file of answers and loop reports names of `meaning`."""
+    return [
+        specs + "Reader.{" + results + "}",
+        specs + "Answer.{figures, answer}",
+        proofs + "Vocabulary.{hex, zeroParameters, closedLoop, walkedLoop, sheetReportsOf}",
+        proofs + "Computes.{computes}",
+    ]
+
+
 IMPORTS = {
-    "Readings.antt": [PATH, LIST, INTEGER, SPECS + "Reader.{ok, refused}", *ANSWER],
-    "Known.antt": [PATH, LIST, "use lib.IntN.{pos}", SPECS + "Reader.{ok}", *ANSWER],
+    "Readings.antt": [PATH, LIST, INTEGER, *answer_lines(SPECS, PROOFS, "ok, refused")],
+    "Telling.antt": [PATH, LIST, *answer_lines(INSIDE_SPECS, INSIDE_PROOFS, "ok, refused")],
+    "Known.antt": [PATH, LIST, POSITIVE, *answer_lines(INSIDE_SPECS, INSIDE_PROOFS, "ok")],
     "KnownAnswers.antt": [
-        LIST, "use lib.IntN.{pos}",
-        "use Rattle.meaning.proofs.Vocabulary.{hex, zeroParameters}",
-        "use Rattle.meaning.proofs.Known.{known-sheets}",
+        LIST, POSITIVE,
+        PROOFS + "Vocabulary.{hex, zeroParameters}",
+        PROOFS + "Known.{known-sheets}",
         "use Rattle.figures.proofs.Settled.{Returns, returns}",
     ],
     "States.antt": [
-        PATH, "use mathlib.Core.List.{List, [], _∷_}", "use mathlib.Core.Option.{none, some}", INTEGER, "use lib.ListN.{drop}",
+        PATH, "use mathlib.Core.List.{List, [], _∷_}", "use mathlib.Core.Option.{none, some}",
+        INTEGER, "use lib.ListN.{drop}",
         SPECS + "Record.{Loop, Record, workRecord, loopRecord, endRecord, choiceRecord, nextArmRecord}",
         SPECS + "Time.{bounds}",
         SPECS + "Stage.{loopFrame, choiceFrame, state}",
         PROOFS + "Vocabulary.{zeroParameters, form, loopOf, stateAfter}",
-        COMPUTES,
+        PROOFS + "Computes.{computes}",
     ],
     "Calls.antt": [
         PATH, LIST, INTEGER,
@@ -96,7 +108,7 @@ IMPORTS = {
         SPECS + "Text.{text}",
         SPECS + "Program.{programText}",
         PROOFS + "Vocabulary.{hex, zeroParameters, form, raw, written, notWritten, called, found, sheetEnd}",
-        COMPUTES,
+        PROOFS + "Computes.{computes}",
     ],
 }
 

@@ -1,4 +1,5 @@
-"""Readings.antt and Known.antt: answers and loop reports from raw bytes. KnownAnswers.antt: what the library call returns."""
+"""Readings.antt, Telling.antt and Known.antt: answers and loop reports from raw bytes.
+KnownAnswers.antt: what the library call returns."""
 
 import sys
 
@@ -37,21 +38,33 @@ def feasible(reading: readings.Reading, trip_limit: int) -> bool:
     return True
 
 
-def readings_file(path: str, trip_limit: int, group: int) -> str:
+def equations_of(lines: list[readings.Reading]) -> list[Equation]:
     """One equation for each refused line, two for each answered one."""
     equations: list[Equation] = []
-    skipped: list[str] = []
-    for reading in readings.parse_file(path):
-        if not feasible(reading, trip_limit):
-            skipped.append(reading.tells)
-            continue
+    for line in lines:
         equations += answer_equations(
-            reading.tells, reading.sheet, reading.parameters, reading.budget, reading.answer)
+            line.tells, line.sheet, line.parameters, line.budget, line.answer)
+    return equations
+
+
+def readings_file(path: str, trip_limit: int, group: int) -> str:
+    """The sheets that tell readings apart, save those with too many trips to compute."""
+    lines = readings.parse_file(path)
+    kept = [line for line in lines if feasible(line, trip_limit)]
+    skipped = [line.tells for line in lines if line not in kept]
     for tells in skipped:
         print(f"skipped: {tells}", file=sys.stderr)
     comments = ["Sheets that tell readings of the papers apart, from raw bytes."]
     comments += [f"Left out, over {trip_limit} trips: {tells}" for tells in skipped]
-    return antt.file_text("Readings.antt", comments, antt.grouped("readings", equations, group))
+    theorems = antt.grouped("readings", equations_of(kept), group)
+    return antt.file_text("Readings.antt", comments, theorems)
+
+
+def telling_file(group: int) -> str:
+    """The same of the sheets that a definition of closed which is too strict answers otherwise."""
+    comments = ["Sheets that definitions which are wrong in one place answer otherwise, from raw bytes."]
+    theorems = antt.grouped("telling", equations_of(readings.parse_file(readings.TELLING)), group)
+    return antt.file_text("Telling.antt", comments, theorems)
 
 
 def known_file() -> str:

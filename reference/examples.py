@@ -2,9 +2,10 @@
 
     python3 examples.py FOLDER [--check] [--trips N] [--group N] [--readings FILE]
 
-writes Readings.antt, States.antt, Calls.antt and Known.antt into the folder of
-proofs of the crate `meaning` below FOLDER and KnownAnswers.antt into that of
-`figures`, or with --check compares them with what stands there.
+writes Known.antt and Telling.antt into the folder of proofs of the crate `meaning`
+below FOLDER, Readings.antt, States.antt and Calls.antt into that of `examples` and
+KnownAnswers.antt into that of `figures`, or with --check compares them with what
+stands there.
 """
 
 import argparse
@@ -12,10 +13,9 @@ import os
 import sys
 
 from example_calls import calls_file
-from example_readings import known_answers_file, known_file, readings_file
+from example_readings import known_answers_file, known_file, readings_file, telling_file
 from example_states import states_file
-
-HERE = os.path.dirname(os.path.abspath(__file__))
+from readings import READINGS
 
 
 def main() -> None:
@@ -25,13 +25,14 @@ def main() -> None:
     parser.add_argument("--trips", type=int, default=30_000,
                         help="leave out readings with more trips than this")
     parser.add_argument("--group", type=int, default=20,
-                        help="equations in a theorem of Readings and Calls")
-    parser.add_argument("--readings", default=os.path.join(HERE, "readings.txt"))
+                        help="equations in a theorem of Readings, Telling and Calls")
+    parser.add_argument("--readings", default=READINGS)
     arguments = parser.parse_args()
     texts = {
-        "meaning/proofs/Readings.antt": readings_file(arguments.readings, arguments.trips, arguments.group),
-        "meaning/proofs/States.antt": states_file(),
-        "meaning/proofs/Calls.antt": calls_file(arguments.group),
+        "examples/proofs/Readings.antt": readings_file(arguments.readings, arguments.trips, arguments.group),
+        "meaning/proofs/Telling.antt": telling_file(arguments.group),
+        "examples/proofs/States.antt": states_file(),
+        "examples/proofs/Calls.antt": calls_file(arguments.group),
         "meaning/proofs/Known.antt": known_file(),
         "figures/proofs/KnownAnswers.antt": known_answers_file(),
     }

@@ -1,15 +1,21 @@
-"""The readings file: sheets with the answers that tell readings of the papers apart.
+"""Two files of sheets with their answers: readings.txt has those that tell readings of the
+papers apart, telling.txt those that tell a definition from one that is wrong in one place.
 
 A line: four parameters, budget, sheet in hex (- if empty), `=>`, then
 `ok LEAST MOST VISITS WAYS CEILINGS` (c or w by loop; - if there is none) or
 `refused NUMBER PLACE`; last `#` and what it tells.
 """
 
+import os
 from typing import NamedTuple
 
 from calls import Answer, Figures
 from nest import Parameters
 from records import Refusal
+
+HERE = os.path.dirname(os.path.abspath(__file__))
+READINGS = os.path.join(HERE, "readings.txt")
+TELLING = os.path.join(HERE, "telling.txt")
 
 
 class Reading(NamedTuple):

@@ -16,7 +16,6 @@ one case after the other, numbers low byte first:
     step, stride, lower form, upper form.
 """
 
-import os
 from random import Random
 
 import known
@@ -28,7 +27,6 @@ from sheet import RawRecord, raw, read, write
 from stored import main, numbers
 from writer_cases import WRITER_CASES, WriterCase
 
-HERE = os.path.dirname(os.path.abspath(__file__))
 SEED = 2049
 # of each size
 VALID_SHEETS = 50
@@ -115,7 +113,7 @@ def encode_entries(entries: list[RawRecord]) -> bytes:
 
 def all_cases() -> bytes:
     random = Random(SEED)
-    lines = readings.parse_file(os.path.join(HERE, "readings.txt"))
+    lines = readings.parse_file(readings.READINGS)
     sheets = [line.sheet for line in lines]
     sheets += truncations() + kinds() + random_sheets(random)
     writes = WRITER_CASES + random_writes(random)

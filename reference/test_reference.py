@@ -18,19 +18,18 @@ import stages
 import trips
 from calls import Called, Figures, answer, c_call, program_text, reports
 from example_calls import calls_file
-from example_readings import known_file, readings_file
+from example_readings import known_file, readings_file, telling_file
 from example_states import states_file
 from generate import SIZES, cases, parameters, valid_records
 from known import MARKED, OTHERS, TRIANGLE, UNIT, ZERO, Known, form, loop, span
 from nest import ceiling_refusal
-from readings import parse_file
+from readings import READINGS, TELLING, parse_file
 from records import (
     COST_LIMIT, END, LOOP, WORK, Choice, End, Form, NextArm, Refusal, encode_all,
 )
 from sheet import BLANK, Part, RawRecord, SheetEnd, Written, raw, read, record_at, write
 
-HERE = os.path.dirname(os.path.abspath(__file__))
-READINGS = os.environ.get("READINGS", os.path.join(HERE, "readings.txt"))
+GIVEN = os.environ.get("READINGS", READINGS)
 SHEETS = int(os.environ.get("SHEETS", "600"))
 TRIPS = 3000
 
@@ -70,9 +69,17 @@ class KnownSheets(unittest.TestCase):
         self.assertEqual(stages.stage(b"\x09", ZERO, state), state)
 
 
-class ReadingsFile(unittest.TestCase):
-    def test_every_line(self) -> None:
-        for reading in parse_file(READINGS):
+class SheetFiles(unittest.TestCase):
+    """The files of sheets with their answers, line by line."""
+
+    def test_readings(self) -> None:
+        self.check(GIVEN)
+
+    def test_telling(self) -> None:
+        self.check(TELLING)
+
+    def check(self, path: str) -> None:
+        for reading in parse_file(path):
             with self.subTest(reading.tells):
                 result = answer(reading.sheet, reading.parameters, reading.budget)
                 self.assertEqual(result, reading.answer)
@@ -152,8 +159,8 @@ class Examples(unittest.TestCase):
 
     def test_counts(self) -> None:
         with contextlib.redirect_stderr(io.StringIO()):
-            readings_text = readings_file(READINGS, 100, 20)
-        for text in (readings_text, known_file(), states_file(), calls_file(20)):
+            readings_text = readings_file(GIVEN, 100, 20)
+        for text in (readings_text, telling_file(20), known_file(), states_file(), calls_file(20)):
             proofs = text.count("(refl") + text.count(", refl") + text.count("= refl")
             imported = text.count("_≡_, refl")
             self.assertEqual(proofs - imported, text.count(" ≡ "))

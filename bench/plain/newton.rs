@@ -12,11 +12,11 @@ pub fn sums(n: u64, known: u64, visited: &[[u64; 2]; 4]) -> [u64; 2] {
 }
 
 fn sum(weights: [u64; 4], v: [u64; 4]) -> u64 {
-    let rise = v[1].wrapping_sub(v[0]);
-    let next_rise = v[2].wrapping_sub(v[1]);
-    let last_rise = v[3].wrapping_sub(v[2]);
-    let bend = next_rise.wrapping_sub(rise);
-    let twist = last_rise.wrapping_sub(next_rise).wrapping_sub(bend);
-    let terms = [v[0], rise, bend, twist];
+    let first_difference = v[1].wrapping_sub(v[0]);
+    let next_first = v[2].wrapping_sub(v[1]);
+    let last_first = v[3].wrapping_sub(v[2]);
+    let second_difference = next_first.wrapping_sub(first_difference);
+    let third_difference = last_first.wrapping_sub(next_first).wrapping_sub(second_difference);
+    let terms = [v[0], first_difference, second_difference, third_difference];
     (0..4).fold(0, |sum: u64, k| sum.wrapping_add(weights[k].wrapping_mul(terms[k])))
 }

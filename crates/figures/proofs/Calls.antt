@@ -5,13 +5,13 @@ use Prim.Native.Nat.{ℕ, _^_, _≤_, _<_}
 use native.Mathlib.Omega.{arith}
 use lib.IntN.{ℤ}
 use lib.ListN.{length, drop}
+use borrow.Author.Tests.{le-leb, lt-leb}
 use Rattle.meaning.specs.Limits.{areaLength}
 use Rattle.meaning.specs.Reader.{Result, ok, refused, require}
-use Rattle.meaning.specs.Answer.{Figures, answer}
+use Rattle.meaning.specs.Answer.{answer, Figures}
 use Rattle.meaning.specs.CCall.{Called, areaBytes, storeAnswer, cCall}
-use Rattle.meaning.proofs.Logic.{leb-yes, leb-no}
 use Rattle.meaning.proofs.Answers.{answer-ok, call-number-zero, call-figures}
-use Rattle.nest.proofs.Bounds.{SmallParameters}
+use Rattle.loops.proofs.Sizes.{SmallParameters}
 use Rattle.figures.specs.Demand.{Answered, Stored}
 use Rattle.figures.proofs.Demands.{answer-demand}
 
@@ -19,14 +19,14 @@ module _ (sheet : List ℕ) (ps : List ℤ) (budget : ℕ) (area : List ℕ) whe
   -- refusal 9
   pub short-area : length area < areaLength → cCall sheet ps budget area ≡ record { number = 9; area = area }
   unfolding cCall require storeAnswer
-  short-area h = ap (λ c. storeAnswer area (require c 9 0 (answer sheet ps budget))) (leb-no areaLength (length area) h)
+  short-area h = ap (λ c. storeAnswer area (require c 9 0 (answer sheet ps budget))) (lt-leb areaLength (length area) h)
 
   -- otherwise what the library call answers
   pub long-area : (r : Result Figures) → areaLength ≤ length area → r ≡ answer sheet ps budget → cCall sheet ps budget area ≡ storeAnswer area r
   unfolding cCall require
-  long-area r h e = λ t. storeAnswer area (require (leb-yes areaLength (length area) h t) 9 0 (sym e t))
+  long-area r h e = λ t. storeAnswer area (require (le-leb areaLength (length area) h t) 9 0 (sym e t))
 
-  -- the least is no more than the most, which is below 2^62, and the visits are within the budget
+  -- the least is no more than the most, which is below the figure limit, and the visits are within the budget
   fits : (f : Figures) → answer sheet ps budget ≡ ok f → Answered sheet ps (ok f) → (f .least < 2 ^ 64) × (f .most < 2 ^ 64) × (f .visits < 2 ^ 64)
   unfolding Answered
   fits f e (rs, readAs, d) =

@@ -1,7 +1,7 @@
 pub mod Repeats
-pub mod Planning
+pub mod Answering
 pub mod Demands
 pub mod Calls
-pub mod Pastes
 pub mod Settled
 pub mod KnownAnswers
+pub mod Consequences

@@ -1,8 +1,8 @@
 -- The number and the values that document 01 gives to each case of the library call's answer.
+use Rattle.figures.specs.declared.Figures.{Figures}
 use Rattle.meaning.specs.Reader.{Result, ok, refused}
 use Rattle.meaning.specs.Answer as Meaning
 use Rattle.meaning.specs.Answer.{figures}
-use Rattle.figures.specs.declared.Figures.{Figures}
 use Rattle.figures.specs.declared.Answer.{Answer}
 use Rattle.figures.specs.declared.Answer.the-variants as answer
 

@@ -11,8 +11,17 @@ ghost use Rattle.figures.specs.Demand.{Answered, Stored};
 use crate::area::put_figures;
 use crate::repeat::figures_of;
 use crate::repeat::repeat_stages;
-use nest::plan::PlanAnswer;
-use nest::plan::plan;
+use form::Parameters;
+use layout::MAX_LOOPS;
+use layout::differences::DIFFERENCE_WORDS;
+use layout::differences::Differences;
+use layout::facts::FACT_NUMBERS;
+use layout::facts::Facts;
+use layout::limits::Limits;
+use layout::rows::ROW_NUMBERS;
+use layout::rows::Rows;
+use planner::PlanAnswer;
+use planner::plan;
 use sheet::refusal::Refusal;
 
 pub struct Figures {
@@ -30,8 +39,8 @@ const MAX_BUDGET: u32 = 1000000;
 
 const AREA_LENGTH: usize = 24;
 
-// The library call. It goes over trips only by repeating the stage.
-pub fn cycles(sheet: &[u8], parameters: [i16; 4], budget: u32) -> Answer
+// The library call. It goes over trips only by repeating the body of the stage, in place.
+pub fn cycles(sheet: &[u8], parameters: Parameters, budget: u32) -> Answer
     ensures answers { λ r. ⌜ answerResult r ≡ answer (now (sheet .entry)) parameters budget ⌝ }
     ensures demand3 { λ r. ⌜ Answered (now (sheet .entry)) parameters (answerResult r) ⌝ }
 {
@@ -41,13 +50,22 @@ pub fn cycles(sheet: &[u8], parameters: [i16; 4], budget: u32) -> Answer
             offset: 0,
         });
     }
-    let mut rows: [u64; 512] = [0; 512];
-    let mut slopes: [u64; 512] = [0; 512];
-    let planned = plan(sheet, parameters, &mut rows, &mut slopes);
+    let mut rows: Rows = [0; ROW_NUMBERS];
+    let mut differences: Differences = [0; DIFFERENCE_WORDS];
+    let mut facts: Facts = [0; FACT_NUMBERS];
+    let mut limits: Limits = [0; MAX_LOOPS];
+    let planned = plan(
+        sheet,
+        parameters,
+        &mut rows,
+        &mut differences,
+        &mut facts,
+        &mut limits,
+    );
     match planned {
         PlanAnswer::Count(count) => {
-            let s = repeat_stages(&rows, &slopes, count, budget);
-            figures_of(s, budget)
+            let sums = repeat_stages(&rows, &differences, &limits, count, budget);
+            figures_of(&sums, budget)
         }
         PlanAnswer::Refused(r) => Answer::Refused(r),
     }

@@ -1,47 +1,55 @@
-// The stage, repeated until the sheet's end or until the visits pass the budget.
+// The stage, repeated in place until the sheet's end or until the visits pass the budget.
 ghost use mathlib.Core.Path.{_≡_};
-ghost use Rattle.meaning.specs.Answer.{checkVisits, figures};
-ghost use Rattle.parts.specs.Sums.{leastOf, mostOf, visitsOf};
+ghost use Rattle.meaning.specs.Answer.{checkVisits};
 ghost use Rattle.figures.specs.Answers.{answerResult};
-ghost use Rattle.figures.specs.Repeat.{Planned, Reached};
+ghost use Rattle.figures.specs.Repeat.{Planned, Reached, figuresAt};
 use crate::Answer;
 use crate::Figures;
+use evaluator::advance;
+use layout::differences::Differences;
+use layout::limits::Limits;
+use layout::rows::Rows;
 use sheet::refusal::Refusal;
-use stage::State;
-use stage::first;
-use stage::stage_on;
+use state::first;
+use state::sums::LEAST;
+use state::sums::MOST;
+use state::sums::Sums;
+use state::sums::VISITS;
 
+// From the first state; answers the sums of the last one.
 pub(crate) fn repeat_stages(
-    rows: &[u64; 512],
-    slopes: &[u64; 512],
+    rows: &Rows,
+    differences: &Differences,
+    limits: &Limits,
     count: usize,
     budget: u32,
-) -> State
-    requires { ⌜ Planned (now rows) (now slopes) count ⌝ }
-    ensures { λ r. ⌜ Reached (now (rows .entry)) (now (slopes .entry)) count budget r ⌝ }
+) -> Sums
+    requires { ⌜ Planned (now rows) (now differences) (now limits) count ⌝ }
+    ensures { λ r. ⌜ Reached (now (rows .entry)) (now (differences .entry)) (now (limits .entry)) count budget r ⌝ }
 {
-    let mut s = first();
-    while s.at != count && s.sums[2] <= (budget as u64) {
-        let next = stage_on(rows, slopes, count, s);
-        s = next;
+    let start = first();
+    let mut at = start.at;
+    let mut sums = start.sums;
+    let mut opened = start.opened;
+    while at != count && sums[VISITS] <= (budget as u64) {
+        at = advance(rows, differences, limits, count, at, &mut sums, &mut opened);
     }
-    s
+    sums
 }
 
-// The figures of a state, or refusal 8 where its visits are more than the budget.
-pub(crate) fn figures_of(s: State, budget: u32) -> Answer
-    ensures { λ r. ⌜ answerResult r ≡ checkVisits budget (figures (leastOf (s .sums)) (mostOf (s .sums)) (visitsOf (s .sums))) ⌝ }
+// The figures in sums, or refusal 8 where their visits are more than the budget.
+pub(crate) fn figures_of(sums: &Sums, budget: u32) -> Answer
+    ensures { λ r. ⌜ answerResult r ≡ checkVisits budget (figuresAt (now (sums .entry))) ⌝ }
 {
-    let sums = s.sums;
-    if (budget as u64) < sums[2] {
+    if (budget as u64) < sums[VISITS] {
         return Answer::Refused(Refusal {
             number: 8,
             offset: 0,
         });
     }
     Answer::Figured(Figures {
-        least: sums[0],
-        most: sums[1],
-        visits: sums[2],
+        least: sums[LEAST],
+        most: sums[MOST],
+        visits: sums[VISITS],
     })
 }

@@ -8,6 +8,7 @@ use lib.IntN.{ℤ, pos, negsuc, natAbs, _+ℤ_, _*ℤ_, +ℤ-idr, zero-*ℤ}
 use lib.ListN.{length, take, drop, set, replicate}
 use Rattle.whole.specs.Integer.{dot}
 use Rattle.whole.proofs.Dot.{dot-nil}
+use Rattle.meaning.specs.Limits.{parameterFactors}
 use Rattle.meaning.specs.Form.{Form, isZero, allZero, value}
 use Rattle.meaning.specs.Range.{Range, exactRange, scale, addRange, dotRange, range}
 use Rattle.meaning.specs.Closed.{push}
@@ -16,63 +17,65 @@ use Rattle.form.specs.Forms.{sizeLimit, bounded, boundedConstant, folded
 use Rattle.form.proofs.Reckoned.{bounded-small}
 
 -- of at most the limit's size
-abbrev pub Within : ℤ → Type 0
-Within z = natAbs z ≤ sizeLimit
+abbrev pub SizeWithin : ℤ → Type 0
+SizeWithin z = natAbs z ≤ sizeLimit
 
 unfoldable pub NumbersWithin : List ℤ → Type 0
 NumbersWithin [] = Unit
-NumbersWithin (x ∷ xs) = Within x × NumbersWithin xs
+NumbersWithin (x ∷ xs) = SizeWithin x × NumbersWithin xs
 
 unfoldable pub RangesWithin : List Range → Type 0
 RangesWithin [] = Unit
-RangesWithin (r ∷ rs) = Within (r .lo) × (Within (r .hi) × RangesWithin rs)
+RangesWithin (r ∷ rs) = SizeWithin (r .lo) × (SizeWithin (r .hi) × RangesWithin rs)
 
 -- ---- factors that are 0
 
-is-zero : (x : ℤ) → T (isZero x) → x ≡ pos zero
+pub zero-is : (x : ℤ) → T (isZero x) → x ≡ pos zero
 unfolding isZero
-is-zero (pos zero) t = refl
-is-zero (pos (suc n)) t = absurd t
-is-zero (negsuc n) t = absurd t
+zero-is (pos zero) t = refl
+zero-is (pos (suc n)) t = absurd t
+zero-is (negsuc n) t = absurd t
 
-zero-dot : (xs ys : List ℤ) → T (allZero xs) → dot xs ys ≡ pos zero
+pub dot-all-zero : (xs ys : List ℤ) → T (allZero xs) → dot xs ys ≡ pos zero
 unfolding allZero
-zero-dot [] ys t = refl
-zero-dot (x ∷ xs) [] t = refl
-zero-dot (x ∷ xs) (y ∷ ys) t =
+dot-all-zero [] ys t = refl
+dot-all-zero (x ∷ xs) [] t = refl
+dot-all-zero (x ∷ xs) (y ∷ ys) t =
     let both = T-and (isZero x) (allZero xs) t in
-    ap₂ _+ℤ_ (ap (λ (z : ℤ). z *ℤ y) (is-zero x (both .0)) ∙ zero-*ℤ y) (zero-dot xs ys (both .1))
+    ap₂ _+ℤ_ (ap (λ (z : ℤ). z *ℤ y) (zero-is x (both .0)) ∙ zero-*ℤ y) (dot-all-zero xs ys (both .1))
 
 zero-scale : (r : Range) → scale (pos zero) r ≡ exactRange (pos zero)
 unfolding scale
 zero-scale r = λ i. record { lo = zero-*ℤ (r .lo) i; hi = zero-*ℤ (r .hi) i }
 
-zero-range : (xs : List ℤ) (rs : List Range) → T (allZero xs) → dotRange xs rs ≡ exactRange (pos zero)
+pub dotRange-all-zero : (xs : List ℤ) (rs : List Range) → T (allZero xs) → dotRange xs rs ≡ exactRange (pos zero)
 unfolding allZero dotRange addRange
-zero-range [] rs t = refl
-zero-range (x ∷ xs) [] t = refl
-zero-range (x ∷ xs) (r ∷ rs) t =
+dotRange-all-zero [] rs t = refl
+dotRange-all-zero (x ∷ xs) [] t = refl
+dotRange-all-zero (x ∷ xs) (r ∷ rs) t =
     let both = T-and (isZero x) (allZero xs) t in
-    ap₂ addRange (ap (λ (z : ℤ). scale z r) (is-zero x (both .0)) ∙ zero-scale r) (zero-range xs rs (both .1))
+    ap₂ addRange (ap (λ (z : ℤ). scale z r) (zero-is x (both .0)) ∙ zero-scale r) (dotRange-all-zero xs rs (both .1))
 
 -- ---- sums of products over the first `depth` entries
 
-pub dot-within : (xs ys : List ℤ) (depth : ℕ) → T (allZero (drop depth xs)) → NumbersWithin (take depth ys) → dot xs (map bounded ys) ≡ dot xs (take depth ys)
+dot-bounded : (xs ys : List ℤ) (depth : ℕ) → T (allZero (drop depth xs)) → NumbersWithin (take depth ys)
+    → dot xs (map bounded ys) ≡ dot xs (take depth ys)
 unfolding NumbersWithin
-dot-within xs ys zero t w = zero-dot xs (map bounded ys) t ∙ sym (dot-nil xs)
-dot-within [] ys (suc depth) t w = refl
-dot-within (x ∷ xs) [] (suc depth) t w = refl
-dot-within (x ∷ xs) (y ∷ ys) (suc depth) t w = ap₂ _+ℤ_ (ap (λ (z : ℤ). x *ℤ z) (bounded-small y (w .0))) (dot-within xs ys depth t (w .1))
+dot-bounded xs ys zero t w = dot-all-zero xs (map bounded ys) t ∙ sym (dot-nil xs)
+dot-bounded [] ys (suc depth) t w = refl
+dot-bounded (x ∷ xs) [] (suc depth) t w = refl
+dot-bounded (x ∷ xs) (y ∷ ys) (suc depth) t w =
+    ap₂ _+ℤ_ (ap (λ (z : ℤ). x *ℤ z) (bounded-small y (w .0))) (dot-bounded xs ys depth t (w .1))
 
 range-nil : (xs : List ℤ) → dotRange xs [] ≡ exactRange (pos zero)
 unfolding dotRange
 range-nil [] = refl
 range-nil (x ∷ xs) = refl
 
-pub range-within : (xs lo hi : List ℤ) (depth : ℕ) → T (allZero (drop depth xs)) → RangesWithin (take depth (rangesBetween lo hi))
+range-within : (xs lo hi : List ℤ) (depth : ℕ) → T (allZero (drop depth xs)) → RangesWithin (take depth (rangesBetween lo hi))
     → dotRange xs (rangesBetween (map bounded lo) (map bounded hi)) ≡ dotRange xs (take depth (rangesBetween lo hi))
 unfolding RangesWithin rangesBetween dotRange
-range-within xs lo hi zero t w = zero-range xs (rangesBetween (map bounded lo) (map bounded hi)) t ∙ sym (range-nil xs)
+range-within xs lo hi zero t w = dotRange-all-zero xs (rangesBetween (map bounded lo) (map bounded hi)) t ∙ sym (range-nil xs)
 range-within [] lo hi (suc depth) t w = refl
 range-within (x ∷ xs) [] hi (suc depth) t w = refl
 range-within (x ∷ xs) (l ∷ lo) [] (suc depth) t w = refl
@@ -84,28 +87,30 @@ range-within (x ∷ xs) (l ∷ lo) (h ∷ hi) (suc depth) t w =
 -- what is asked of a form of a loop that `depth` loops enclose
 pub record Plain (parameters : List ℤ) (depth : ℕ) (f : Form) : Type 0 where
   pub enclosed : T (allZero (drop depth (f .index)))
-  pub small : Within (f .constant)
-  pub smallSum : Within (f .constant +ℤ dot (f .parameter) parameters)
+  pub small : SizeWithin (f .constant)
+  pub smallSum : SizeWithin (f .constant +ℤ dot (f .parameter) parameters)
 
 module _ {parameters : List ℤ} {depth : ℕ} {f : Form} (plain : Plain parameters depth f) where
   -- the constant, bounded twice and with no parameters left
-  constant-folded : bounded (bounded (f .constant) +ℤ dot (f .parameter) parameters) +ℤ dot (replicate 4 (pos zero)) [] ≡ f .constant +ℤ dot (f .parameter) parameters
+  constant-folded : bounded (bounded (f .constant) +ℤ dot (f .parameter) parameters) +ℤ dot (replicate parameterFactors (pos zero)) []
+      ≡ f .constant +ℤ dot (f .parameter) parameters
   constant-folded =
       +ℤ-idr (bounded (bounded (f .constant) +ℤ dot (f .parameter) parameters))
       ∙ ap (λ (z : ℤ). bounded (z +ℤ dot (f .parameter) parameters)) (bounded-small (f .constant) (plain .small))
       ∙ bounded-small (f .constant +ℤ dot (f .parameter) parameters) (plain .smallSum)
 
-  pub range-folded : (lo hi : List ℤ) → RangesWithin (take depth (rangesBetween lo hi)) → rangeWithin (folded parameters f) lo hi ≡ range parameters f (take depth (rangesBetween lo hi))
+  pub range-folded : (lo hi : List ℤ) → RangesWithin (take depth (rangesBetween lo hi))
+      → rangeWithin (folded parameters f) lo hi ≡ range parameters f (take depth (rangesBetween lo hi))
   unfolding rangeWithin folded boundedConstant range
   range-folded lo hi w = ap₂ addRange (ap exactRange constant-folded) (range-within (f .index) lo hi depth (plain .enclosed) w)
 
   pub value-folded : (indexes : List ℤ) → NumbersWithin (take depth indexes) → valueAt (folded parameters f) indexes ≡ value parameters f (take depth indexes)
   unfolding valueAt folded boundedConstant value
-  value-folded indexes w = ap₂ _+ℤ_ constant-folded (dot-within (f .index) indexes depth (plain .enclosed) w)
+  value-folded indexes w = ap₂ _+ℤ_ constant-folded (dot-bounded (f .index) indexes depth (plain .enclosed) w)
 
   pub push-folded : (pushes : List ℤ) → NumbersWithin (take depth pushes) → pushOf (folded parameters f) pushes ≡ push f (take depth pushes)
   unfolding pushOf folded push
-  push-folded pushes w = dot-within (f .index) pushes depth (plain .enclosed) w
+  push-folded pushes w = dot-bounded (f .index) pushes depth (plain .enclosed) w
 
 -- ---- one more loop: its entry is stored at its depth, and the entries of the loops around stay
 
@@ -115,14 +120,5 @@ unfolding rangesBetween
 ranges-set [] hi depth l h p q = absurd (omega arith)
 ranges-set (x ∷ lo) [] depth l h p q = absurd (omega arith)
 ranges-set (x ∷ lo) (y ∷ hi) zero l h p q = refl
-ranges-set (x ∷ lo) (y ∷ hi) (suc depth) l h p q = ap (λ (rs : List Range). record { lo = x; hi = y } ∷ rs) (ranges-set lo hi depth l h (omega arith) (omega arith))
-
-pub ranges-kept : (lo hi : List ℤ) (depth inner : ℕ) (l h : ℤ) → depth ≤ inner
-    → take depth (rangesBetween (set lo inner l) (set hi inner h)) ≡ take depth (rangesBetween lo hi)
-unfolding rangesBetween
-ranges-kept lo hi zero inner l h p = refl
-ranges-kept [] hi (suc depth) inner l h p = refl
-ranges-kept (x ∷ lo) [] (suc depth) zero l h p = absurd (omega arith)
-ranges-kept (x ∷ lo) [] (suc depth) (suc inner) l h p = refl
-ranges-kept (x ∷ lo) (y ∷ hi) (suc depth) zero l h p = absurd (omega arith)
-ranges-kept (x ∷ lo) (y ∷ hi) (suc depth) (suc inner) l h p = ap (λ (rs : List Range). record { lo = x; hi = y } ∷ rs) (ranges-kept lo hi depth inner l h (omega arith))
+ranges-set (x ∷ lo) (y ∷ hi) (suc depth) l h p q =
+    ap (λ (rs : List Range). record { lo = x; hi = y } ∷ rs) (ranges-set lo hi depth l h (omega arith) (omega arith))

@@ -6,6 +6,7 @@ use lib.IntN.{ℤ, pos, natAbs, _+ℤ_}
 use lib.Dec.{leb}
 use lib.ListN.{replicate}
 use Rattle.whole.specs.Integer.{dot}
+use Rattle.meaning.specs.Limits.{parameterFactors}
 use Rattle.meaning.specs.Form as M
 use Rattle.meaning.specs.Form.{value}
 use Rattle.meaning.specs.Range as R
@@ -14,9 +15,11 @@ use Rattle.meaning.specs.Closed.{push}
 use Rattle.form.specs.declared.Form.{Form}
 use Rattle.form.specs.declared.Range.{Range}
 
+-- a form as the meaning has it
 abbrev pub wideForm : Form → M.Form
 wideForm f = record { constant = f .constant; index = f .index; parameter = f .parameter }
 
+-- a range as the meaning has it
 abbrev pub rangeOf : Range → R.Range
 rangeOf r = record { lo = r .lo; hi = r .hi }
 
@@ -28,12 +31,17 @@ sizeLimit = 2 ^ 46
 unfoldable pub bounded : ℤ → ℤ
 bounded z = cond (leb (natAbs z) sizeLimit) z (pos zero)
 
+-- the form with its constant so bounded
 unfoldable pub boundedConstant : M.Form → M.Form
 boundedConstant f = record { constant = bounded (f .constant); index = f .index; parameter = f .parameter }
 
 -- the form with the parameters' values in its constant
 unfoldable pub folded : List ℤ → M.Form → M.Form
-folded parameters f = record { constant = bounded (f .constant) +ℤ dot (f .parameter) parameters; index = f .index; parameter = replicate 4 (pos zero) }
+folded parameters f = record {
+  constant = bounded (f .constant) +ℤ dot (f .parameter) parameters;
+  index = f .index;
+  parameter = replicate parameterFactors (pos zero);
+}
 
 -- ranges from the list of their smallest numbers and the list of their largest
 unfoldable pub rangesBetween : List ℤ → List ℤ → List R.Range

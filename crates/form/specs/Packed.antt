@@ -1,6 +1,7 @@
 -- Forms at the widths of a sheet as the meaning's.
 use lib.IntN.{pos}
 use lib.ListN.{replicate}
+use Rattle.meaning.specs.Limits.{indexFactors, parameterFactors}
 use Rattle.meaning.specs.Form.{Form}
 use Rattle.form.specs.declared.packed.PackedForm.{PackedForm}
 
@@ -14,4 +15,4 @@ packed f = record { constant = f .constant; index = f .index; parameter = f .par
 
 -- the form whose every part is 0
 abbrev pub blankForm : PackedForm
-blankForm = record { constant = pos 0; index = replicate 3 (pos 0); parameter = replicate 4 (pos 0) }
+blankForm = record { constant = pos 0; index = replicate indexFactors (pos 0); parameter = replicate parameterFactors (pos 0) }

@@ -1,5 +1,4 @@
 // Forms as the reckoning takes them: subtract, range, push, and the value at given indexes.
-pub mod number;
 pub mod packed;
 
 ghost use mathlib.Core.Path.{_≡_};
@@ -10,17 +9,29 @@ ghost use lib.IntN.{pos, natAbs, _-ℤ_, _*ℤ_};
 ghost use lib.Signed.{ltZ};
 ghost use lib.ListN.{getD};
 ghost use Rattle.whole.specs.Integer as Z;
+ghost use Rattle.meaning.specs.Limits.{indexFactors};
 ghost use Rattle.meaning.specs.Form as M;
 ghost use Rattle.meaning.specs.Range.{dotRange};
 ghost use Rattle.form.specs.Packed.{formOf};
 ghost use Rattle.form.specs.Forms.{wideForm, rangeOf, bounded, folded, rangesBetween, rangeWithin, valueAt, pushOf};
+use crate::packed::INDEX_FACTORS;
+use crate::packed::PARAMETER_FACTORS;
 use crate::packed::PackedForm;
+
+// The most loops that stand in one another.
+pub const MAX_DEPTH: usize = 4;
+
+// A number for each loop that may be open, the outermost first.
+pub type PerLoop = [i64; MAX_DEPTH];
+
+// The values of the parameters.
+pub type Parameters = [i16; PARAMETER_FACTORS];
 
 // A factor has 16 bits, which is room for the difference of two factors of a sheet.
 pub struct Form {
     pub constant: i64,
-    pub index: [i16; 3],
-    pub parameter: [i16; 4],
+    pub index: [i16; INDEX_FACTORS],
+    pub parameter: [i16; PARAMETER_FACTORS],
 }
 
 // The smallest value and the largest.
@@ -30,7 +41,7 @@ pub struct Range {
 }
 
 // 2^46. No accepted sheet has a larger index, push or constant; up to it, no product or sum here leaves 64 bits.
-const LIMIT: i64 = 70368744177664;
+const LIMIT: i64 = 0x4000_0000_0000;
 
 // A number beyond the limit counts as 0.
 fn limited(x: i64) -> i64
@@ -52,7 +63,7 @@ fn difference(x: i8, y: i8) -> i16
     (x as i16) - (y as i16)
 }
 
-fn index_differences(x: [i8; 3], y: [i8; 3]) -> [i16; 3]
+fn index_differences(x: [i8; INDEX_FACTORS], y: [i8; INDEX_FACTORS]) -> [i16; INDEX_FACTORS]
     ensures { λ r. ⌜ r ≡ Z.subtractLists x y ⌝ }
 {
     [
@@ -62,7 +73,10 @@ fn index_differences(x: [i8; 3], y: [i8; 3]) -> [i16; 3]
     ]
 }
 
-fn parameter_differences(x: [i8; 4], y: [i8; 4]) -> [i16; 4]
+fn parameter_differences(
+    x: [i8; PARAMETER_FACTORS],
+    y: [i8; PARAMETER_FACTORS],
+) -> [i16; PARAMETER_FACTORS]
     ensures { λ r. ⌜ r ≡ Z.subtractLists x y ⌝ }
 {
     [
@@ -81,7 +95,7 @@ fn share(factor: i16, parameter: i16) -> i64
 }
 
 // All four parameters' shares.
-fn shares(factors: [i16; 4], parameters: [i16; 4]) -> i64
+fn shares(factors: [i16; PARAMETER_FACTORS], parameters: Parameters) -> i64
     ensures { λ r. ⌜ (r ≡ Z.dot factors parameters) × (natAbs r ≤ 2 ^ 32) ⌝ }
 {
     let first = share(factors[0], parameters[0]);
@@ -100,8 +114,8 @@ fn product(factor: i16, x: i64) -> i64
 }
 
 // The sum of the products of a form's three factors and the numbers of three indexes.
-fn dot(index: [i16; 3], x: i64, y: i64, z: i64) -> i64
-    ensures { λ r. ⌜ (r ≡ Z.dot index (bounded x ∷ bounded y ∷ bounded z ∷ [])) × (natAbs r ≤ 3 * 2 ^ 61) ⌝ }
+fn dot(index: [i16; INDEX_FACTORS], x: i64, y: i64, z: i64) -> i64
+    ensures { λ r. ⌜ (r ≡ Z.dot index (bounded x ∷ bounded y ∷ bounded z ∷ [])) × (natAbs r ≤ indexFactors * 2 ^ 61) ⌝ }
 {
     let first = product(index[0], x);
     let second = product(index[1], y);
@@ -117,8 +131,8 @@ fn end(factor: i16, lo: i64, hi: i64) -> i64
 }
 
 // The smallest that the indexes add to a form's value, where each lies between its lo and its hi; where the ends are exchanged, the largest.
-fn smallest(index: [i16; 3], lo: [i64; 4], hi: [i64; 4]) -> i64
-    ensures { λ r. ⌜ (r ≡ dotRange index (rangesBetween (map bounded lo) (map bounded hi)) .lo) × (natAbs r ≤ 3 * 2 ^ 61) ⌝ }
+fn smallest(index: [i16; INDEX_FACTORS], lo: PerLoop, hi: PerLoop) -> i64
+    ensures { λ r. ⌜ (r ≡ dotRange index (rangesBetween (map bounded lo) (map bounded hi)) .lo) × (natAbs r ≤ indexFactors * 2 ^ 61) ⌝ }
 {
     let x = end(index[0], lo[0], hi[0]);
     let y = end(index[1], lo[1], hi[1]);
@@ -152,7 +166,7 @@ impl Form {
     }
 
     // The form with the parameters' shares in its constant, and no factors of parameters left.
-    pub fn fold(self, parameters: [i16; 4]) -> Form
+    pub fn fold(self, parameters: Parameters) -> Form
         ensures { λ r. ⌜ wideForm r ≡ folded parameters (wideForm self) ⌝ }
     {
         let factors = self.parameter;
@@ -161,12 +175,12 @@ impl Form {
         Form {
             constant: within + shares(factors, parameters),
             index: index,
-            parameter: [0; 4],
+            parameter: [0; PARAMETER_FACTORS],
         }
     }
 
     // The smallest value and the largest, where each index lies between its lo and its hi.
-    pub fn range(self, lo: [i64; 4], hi: [i64; 4]) -> Range
+    pub fn range(self, lo: PerLoop, hi: PerLoop) -> Range
         ensures { λ r. ⌜ rangeOf r ≡ rangeWithin (wideForm self) lo hi ⌝ }
     {
         let index = self.index;
@@ -178,7 +192,7 @@ impl Form {
     }
 
     // The value at these indexes.
-    pub fn at(self, indexes: [i64; 4]) -> i64
+    pub fn at(self, indexes: PerLoop) -> i64
         ensures { λ r. ⌜ r ≡ valueAt (wideForm self) indexes ⌝ }
     {
         let index = self.index;
@@ -187,10 +201,10 @@ impl Form {
     }
 
     // What the next trip of loop m adds to the value: its pushes on the indexes are row m.
-    pub fn push(self, pushes: [[i64; 4]; 4], m: usize) -> i64
+    pub fn push(self, pushes: [PerLoop; MAX_DEPTH], m: usize) -> i64
         ensures { λ r. ⌜ r ≡ pushOf (wideForm self) (getD pushes m []) ⌝ }
     {
-        if 4 <= m {
+        if MAX_DEPTH <= m {
             return 0;
         }
         let index = self.index;

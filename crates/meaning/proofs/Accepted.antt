@@ -1,8 +1,8 @@
--- What the reader accepts: records in place, with fields in range, at most 64, whose tree has just these records and is sound.
+-- What the reader accepts: records in place, with fields in range, at most recordLimit, whose tree has just these records and is sound.
 use mathlib.Core.Path.{_≡_, refl, sym, ap, _∙_, subst}
 use mathlib.Core.List.{List, [], _∷_, _++_, append-assoc}
-use mathlib.Core.Bool.{Bool, true, false, cond, _&&_}
-use mathlib.Core.Option.{none, some}
+use mathlib.Core.Bool.{_&&_}
+use mathlib.Core.Option.{some}
 use Prim.Native.Nat.{ℕ, zero, suc, _+_, _≤_}
 use native.Mathlib.Omega.{arith}
 use lib.ListN.{length, take, drop}
@@ -10,10 +10,14 @@ use lib.Dec.{T, leb, ltb, eqb, leb→le, ltb→lt, eqb→eq}
 use Rattle.meaning.specs.Limits.{recordLimit, depthLimit, openLimit, costLimit, strideLimit, constantHalf, indexFactors, parameterFactors}
 use Rattle.meaning.specs.Number.{hasPattern}
 use Rattle.meaning.specs.Form.{Form, allZero, factorsFit, formInRange}
-use Rattle.meaning.specs.Record.{Kind, workKind, loopKind, endKind, choiceKind, nextArmKind, kindOf, bodyLength, Loop, Record, workRecord, loopRecord, endRecord, choiceRecord, nextArmRecord, kind, recordLength, decodeRecord, Open, openLoop, openChoice, loopDepth, fieldsInRange, openAfter}
+use Rattle.meaning.specs.Record.{Kind, workKind, loopKind, endKind, choiceKind, nextArmKind, kindOf, bodyLength}
+use Rattle.meaning.specs.Record.{Loop, Record, workRecord, loopRecord, endRecord, choiceRecord, nextArmRecord, kind, recordLength, decodeRecord}
+use Rattle.meaning.specs.Record.{Open, openLoop, openChoice, loopDepth, fieldsInRange, openAfter}
 use Rattle.meaning.specs.Reader.{Result, ok, orRefuse, Accepted, accept, readRecord, endOfSheet, readFrom, read}
-use Rattle.meaning.specs.Tree.{Block, Arms, work, loop, choice, lastArm, arm, Segments, final, beforeEnd, beforeNextArm, onFirst, takeBody, takeArms, segments, firstSegment, tree, records, armsRecords, height, armsHeight}
-use Rattle.meaning.proofs.Logic.{T-and, refused-is-not-ok, andThen-ok, require-ok, orRefuse-ok, andThen-yes, require-yes, orRefuse-yes}
+use Rattle.meaning.specs.Tree.{Block, Arms, work, loop, choice, lastArm, arm, Segments, final, beforeEnd, beforeNextArm, onFirst}
+use Rattle.meaning.specs.Tree.{takeBody, takeArms, segments, firstSegment, tree, records, armsRecords, height, armsHeight}
+use Rattle.meaning.specs.Time.{strideSize, entryCost}
+use Rattle.meaning.proofs.Logic.{T-and, refused-is-not-ok, andThen-ok, require-ok, orRefuse-ok, andThen-yes, require-yes, orRefuse-yes, test-passed, nil-is-not-cons}
 use Rattle.meaning.proofs.Sound.{WorkSound, LoopSound, Sound, ArmsSound}
 
 -- ---- one record
@@ -72,9 +76,6 @@ pub endOfSheet-ok : {A : Type 0} (at : ℕ) (os : List Open) (a b : A) → endOf
 unfolding endOfSheet
 endOfSheet-ok at [] a b e = (refl, cc)
 endOfSheet-ok at (o ∷ os) a b e = refused-is-not-ok e
-
-nil-is-not-cons : {X : Type 0} {r : Record} {rs : List Record} → [] ≡ r ∷ rs → X
-nil-is-not-cons e = absurd (let z : _≡_ {A = ℕ} 0 1 = cc in omega arith)
 
 -- how r and rs after it are read from bytes, where `left` more records may come
 pub record FirstRead (left at : ℕ) (os : List Open) (bytes : List ℕ) (r : Record) (rs : List Record) : Type 0 where
@@ -145,7 +146,7 @@ readFrom-short (r ∷ rs) left at os bytes e =
     let f = readFrom-first left at os bytes r rs e in
     omega (arith, readFrom-short rs (f .leftAfter) _ (f .after) _ (f .othersRead), f .leftIs)
 
--- document 01: at most 64 records, each in its place with its fields in range, nothing open at the end
+-- document 01: at most recordLimit records, each in its place with its fields in range, nothing open at the end
 pub record WellFormed (rs : List Record) : Type 0 where
   pub inPlace : InPlace [] rs
   pub short : length rs ≤ recordLimit
@@ -231,22 +232,8 @@ work-in-range os least most t =
     record { ordered = leb→le least most (b .0); mostSmall = leb→le most costLimit (b .1) }
 
 loop-sound : (depth : ℕ) (l : Loop) → LoopInRange depth l → LoopSound l
-loop-sound depth l i = record { moves = i .moves; startSmall = i .startSmall; stepSmall = i .stepSmall }
-
--- what follows records in place is in place, where something is open
-pub in-place-after : (xs ys : List Record) (os : List Open) → InPlace os (xs ++ ys) → (after : List Open) × InPlace after ys
-unfolding InPlace
-in-place-after [] ys os h = (os, h)
-in-place-after (x ∷ xs) ys os h = in-place-after xs ys (h .0) (h .3)
-
--- each record of an accepted sheet has its fields in range where something is open
-pub read-fields : (sheet : List ℕ) (xs : List Record) (r : Record) (ys : List Record) → read sheet ≡ ok (xs ++ (r ∷ ys)) → (os : List Open) × T (fieldsInRange os r)
-unfolding InPlace
-read-fields sheet xs r ys e = let h = in-place-after xs (r ∷ ys) [] (read-in-place sheet (xs ++ (r ∷ ys)) e) in (h .0, h .1 .2)
-
--- each loop of an accepted sheet has its fields in range at some depth
-pub read-loop : (sheet : List ℕ) (xs : List Record) (l : Loop) (ys : List Record) → read sheet ≡ ok (xs ++ (loopRecord l ∷ ys)) → (depth : ℕ) × LoopInRange depth l
-read-loop sheet xs l ys e = let f = read-fields sheet xs (loopRecord l) ys e in (loopDepth (f .0), loop-in-range (f .0) l (f .1))
+unfolding strideSize entryCost
+loop-sound depth l i = record { moves = i .moves; entrySmall = λ trips. i .startSmall; stepSmall = i .stepSmall }
 
 -- ---- the segments of records in place
 
@@ -329,11 +316,6 @@ takeArms-sound os f before h k (beforeNextArm b p) (s, n, g) =
         ArmsSound (f (arm b arms)) × (armsHeight (f (arm b arms)) + loopDepth os ≤ depthLimit)
     sound arms sa na = k (arm b arms) (unfold Sound in (s, sa)) (unfold height in omega arith)
 
--- what a test leaves open
-opened : (c : Bool) (os after : List Open) → cond c (some os) none ≡ some after → T c × (os ≡ after)
-opened true os after e = (tt, cc)
-opened false os after e = absurd (let z : _≡_ {A = ℕ} 0 1 = cc in omega arith)
-
 loopDepth-tail : (o : Open) (os : List Open) → loopDepth os ≤ loopDepth (o ∷ os)
 unfolding loopDepth
 loopDepth-tail openLoop os = omega arith
@@ -352,7 +334,7 @@ segments-sound os (workRecord least most ∷ rs) n (after, e, f, h) =
       onFirst-records (work least most) (workRecord least most ∷ []) (λ r. refl) (segments rs) ∙ ap (λ x. workRecord least most ∷ x) (i .1),
     )
 segments-sound os (loopRecord l ∷ rs) n (after, e, f, h) =
-    let c = opened (ltb (loopDepth os) depthLimit && ltb (length os) openLimit) (openLoop ∷ os) after e in
+    let c = test-passed (ltb (loopDepth os) depthLimit && ltb (length os) openLimit) (openLoop ∷ os) after e in
     let d : suc (loopDepth os) ≤ depthLimit = ltb→lt (loopDepth os) depthLimit (T-and (ltb (loopDepth os) depthLimit) (ltb (length os) openLimit) (c .0) .0) in
     let i = segments-sound (openLoop ∷ os) rs d (subst (λ x. InPlace x rs) (sym (c .1)) h) in
     let g = takeBody-sound os l (segments rs) (loop-sound (loopDepth os) l (loop-in-range os l f)) d (i .0) in
@@ -363,7 +345,7 @@ segments-sound (o ∷ os) (endRecord ∷ rs) n (after, e, f, h) =
     let i = segments-sound os rs (omega (arith, loopDepth-tail o os)) (subst (λ x. InPlace x rs) (sym z) h) in
     ((tt, omega arith, i .0), ap (λ x. endRecord ∷ x) (i .1))
 segments-sound os (choiceRecord ∷ rs) n (after, e, f, h) =
-    let c = opened (ltb (length os) openLimit) (openChoice ∷ os) after e in
+    let c = test-passed (ltb (length os) openLimit) (openChoice ∷ os) after e in
     let i = segments-sound (openChoice ∷ os) rs n (subst (λ x. InPlace x rs) (sym (c .1)) h) in
     let g = takeArms-sound os (λ arms. arms) [] (λ arms. refl) (λ arms s m. (s, m)) (segments rs) (i .0) in
     (g .0, g .1 ∙ ap (λ x. choiceRecord ∷ x) (i .1))

@@ -10,6 +10,7 @@ use native.Mathlib.Omega.{arith}
 use lib.IntN.{ℤ}
 use lib.Dec.{leb}
 use lib.ListN.{length, length-drop, drop}
+use borrow.Author.Tests.{le-leb, lt-leb}
 use Rattle.meaning.specs.Limits.{budgetLimit, areaLength}
 use Rattle.meaning.specs.Number.{littleEndian}
 use Rattle.meaning.specs.Record.{Record}
@@ -18,10 +19,11 @@ use Rattle.meaning.specs.Tree.{tree}
 use Rattle.meaning.specs.Visits.{visits}
 use Rattle.meaning.specs.Report.{firstOverCeiling}
 use Rattle.meaning.specs.Answer.{Figures, figures, sheetReports, checkCeilings, accepted, figuresOf, checkVisits, answer}
-use Rattle.meaning.specs.CCall.{Called, areaBytes, storeAnswer, cCall, figuresIn}
-use Rattle.meaning.proofs.Logic.{leb-yes, refused-is-not-ok, andThen-ok, leb-no, ok-injective, refused-number}
+use Rattle.meaning.specs.CCall.{areaBytes, storeAnswer, cCall, figuresIn}
+use Rattle.meaning.proofs.Logic.{refused-is-not-ok, andThen-ok, ok-injective, refused-number}
 use Rattle.meaning.proofs.Refusals.{read-refused}
 use Rattle.meaning.proofs.Number.{unsigned-littleEndian}
+use Rattle.meaning.proofs.Vocabulary.{called}
 
 -- ---- the sheet
 
@@ -39,7 +41,8 @@ module _ (sheet : List ℕ) (ps : List ℤ) where
   unfolding andThen
   accepted-unread number place e = accepted-by e
 
-  pub accepted-over : (rs : List Record) (offset : ℕ) → read sheet ≡ ok rs → firstOverCeiling (sheetReports ps rs) ≡ some offset → accepted sheet ps ≡ refused 6 offset
+  pub accepted-over : (rs : List Record) (offset : ℕ) → read sheet ≡ ok rs → firstOverCeiling (sheetReports ps rs) ≡ some offset →
+      accepted sheet ps ≡ refused 6 offset
   unfolding andThen checkCeilings
   accepted-over rs offset e f = accepted-by e ∙ ap (λ o. checkCeilings o rs) f
 
@@ -49,7 +52,8 @@ module _ (sheet : List ℕ) (ps : List ℤ) where
 
   pub accepted-ok : (rs : List Record) → (accepted sheet ps ≡ ok rs) ↔ ((read sheet ≡ ok rs) × (firstOverCeiling (sheetReports ps rs) ≡ none))
   unfolding accepted
-  accepted-ok rs = (λ e. byReading (andThen-ok (read sheet) (λ rs. checkCeilings (firstOverCeiling (sheetReports ps rs)) rs) rs e), λ h. accepted-within rs (h .0) (h .1))
+  accepted-ok rs =
+      (λ e. byReading (andThen-ok (read sheet) (λ rs. checkCeilings (firstOverCeiling (sheetReports ps rs)) rs) rs e), λ h. accepted-within rs (h .0) (h .1))
     where
       byReading : ((rs′ : List Record) × (read sheet ≡ ok rs′) × (checkCeilings (firstOverCeiling (sheetReports ps rs′)) rs′ ≡ ok rs)) →
           (read sheet ≡ ok rs) × (firstOverCeiling (sheetReports ps rs) ≡ none)
@@ -74,11 +78,11 @@ budget-decided budget =
     ]
 
 in-range-passes : (budget : ℕ) → BudgetInRange budget → (leb 1 budget && leb budget budgetLimit) ≡ true
-in-range-passes budget b = λ t. leb-yes 1 budget (b .positive) t && leb-yes budget budgetLimit (b .within) t
+in-range-passes budget b = λ t. le-leb 1 budget (b .positive) t && le-leb budget budgetLimit (b .within) t
 
 out-of-range-fails : (budget : ℕ) → BudgetOutOfRange budget → (leb 1 budget && leb budget budgetLimit) ≡ false
 out-of-range-fails budget (inl e) = ap (λ x. leb 1 x && leb x budgetLimit) e
-out-of-range-fails budget (inr h) = λ t. leb-yes 1 budget (omega arith) t && leb-no budget budgetLimit h t
+out-of-range-fails budget (inr h) = λ t. le-leb 1 budget (omega arith) t && lt-leb budget budgetLimit h t
 
 -- ---- the five outcomes
 
@@ -112,14 +116,15 @@ module _ (sheet : List ℕ) (ps : List ℤ) (budget : ℕ) where
   unfolding require andThen checkVisits figuresOf
   answer-by-visits rs b e v = answer-by (in-range-passes budget b) e ∙ ap (λ c. require c 8 0 (ok (figuresOf ps (tree rs)))) v
 
-  pub answer-spent : (rs : List Record) → BudgetInRange budget → accepted sheet ps ≡ ok rs → budget < visits ps (tree rs) [] [] → answer sheet ps budget ≡ refused 8 0
+  pub answer-spent : (rs : List Record) → BudgetInRange budget → accepted sheet ps ≡ ok rs → budget < visits ps (tree rs) [] [] →
+      answer sheet ps budget ≡ refused 8 0
   unfolding require
-  answer-spent rs b e h = answer-by-visits rs b e (leb-no (visits ps (tree rs) [] []) budget h)
+  answer-spent rs b e h = answer-by-visits rs b e (lt-leb (visits ps (tree rs) [] []) budget h)
 
   pub answer-figures : (rs : List Record) → BudgetInRange budget → accepted sheet ps ≡ ok rs → visits ps (tree rs) [] [] ≤ budget →
       answer sheet ps budget ≡ ok (figuresOf ps (tree rs))
   unfolding require
-  answer-figures rs b e h = answer-by-visits rs b e (leb-yes (visits ps (tree rs) [] []) budget h)
+  answer-figures rs b e h = answer-by-visits rs b e (le-leb (visits ps (tree rs) [] []) budget h)
 
   pub outcome : Outcome
   outcome = byBudget (budget-decided budget)
@@ -149,7 +154,7 @@ module _ (sheet : List ℕ) (ps : List ℤ) (budget : ℕ) where
 -- ---- what follows from an answer
 
 -- the answer's figures are those of an accepted sheet, at a budget that suffices
-pub record Answered (sheet : List ℕ) (ps : List ℤ) (budget : ℕ) (f : Figures) : Type 0 where
+pub record FiguresGiven (sheet : List ℕ) (ps : List ℤ) (budget : ℕ) (f : Figures) : Type 0 where
   pub rs : List Record
   pub readAs : read sheet ≡ ok rs
   pub ceilingsWithin : firstOverCeiling (sheetReports ps rs) ≡ none
@@ -158,7 +163,7 @@ pub record Answered (sheet : List ℕ) (ps : List ℤ) (budget : ℕ) (f : Figur
   pub budgetInRange : BudgetInRange budget
 
 module _ (sheet : List ℕ) (ps : List ℤ) (budget : ℕ) where
-  answered-by : (f : Figures) → answer sheet ps budget ≡ ok f → Outcome sheet ps budget → Answered sheet ps budget f
+  answered-by : (f : Figures) → answer sheet ps budget ≡ ok f → Outcome sheet ps budget → FiguresGiven sheet ps budget f
   unfolding figuresOf
   answered-by f a (budgetRefused b e) = refused-is-not-ok (sym e ∙ a)
   answered-by f a (readRefused number place b r e) = refused-is-not-ok (sym e ∙ a)
@@ -175,7 +180,7 @@ module _ (sheet : List ℕ) (ps : List ℤ) (budget : ℕ) where
         budgetInRange = b;
       }
 
-  answers : (f : Figures) → Answered sheet ps budget f → answer sheet ps budget ≡ ok f
+  answers : (f : Figures) → FiguresGiven sheet ps budget f → answer sheet ps budget ≡ ok f
   unfolding figuresOf
   answers f a =
       answer-figures sheet ps budget (a .rs) (a .budgetInRange) (accepted-within sheet ps (a .rs) (a .readAs) (a .ceilingsWithin))
@@ -183,7 +188,7 @@ module _ (sheet : List ℕ) (ps : List ℤ) (budget : ℕ) where
       ∙ ap {B = Result Figures} ok (sym (a .figuresAre))
 
   -- figures are answered exactly where the sheet is accepted and the budget is in range and suffices
-  pub answer-ok : (f : Figures) → (answer sheet ps budget ≡ ok f) ↔ Answered sheet ps budget f
+  pub answer-ok : (f : Figures) → (answer sheet ps budget ≡ ok f) ↔ FiguresGiven sheet ps budget f
   answer-ok f = (λ a. answered-by f a (outcome sheet ps budget), answers f)
 
   -- the library call has no 9
@@ -228,9 +233,6 @@ unfolding figuresIn areaBytes littleEndian
 figures-in-area f rest p q r =
     λ t. figures (unsigned-littleEndian 8 (f .least) p t) (unsigned-littleEndian 8 (f .most) q t) (unsigned-littleEndian 8 (f .visits) r t)
 
-abbrev called : ℕ → List ℕ → Called
-called number area = record { number = number; area = area }
-
 module _ (sheet : List ℕ) (ps : List ℤ) (budget : ℕ) (area : List ℕ) where
   -- what the C call does, and when: 9, then what the library call answers
   pub data CallOutcome : Type 0 where
@@ -249,12 +251,12 @@ module _ (sheet : List ℕ) (ps : List ℤ) (budget : ℕ) (area : List ℕ) whe
       same e f = λ t. storeAnswer area (require (e t) 9 0 (f t))
 
       byAnswer : areaLength ≤ length area → (r : Result Figures) → answer sheet ps budget ≡ r → CallOutcome
-      byAnswer h (ok f) e = stored f h e (same (leb-yes areaLength (length area) h) e)
-      byAnswer h (refused number place) e = answerRefused number place h e (same (leb-yes areaLength (length area) h) e)
+      byAnswer h (ok f) e = stored f h e (same (le-leb areaLength (length area) h) e)
+      byAnswer h (refused number place) e = answerRefused number place h e (same (le-leb areaLength (length area) h) e)
 
       byArea : Dec (areaLength ≤ length area) → CallOutcome
       byArea (yes h) = byAnswer h (answer sheet ps budget) refl
-      byArea (no h) = let h′ : length area < areaLength = omega arith in areaRefused h′ (same (leb-no areaLength (length area) h′) refl)
+      byArea (no h) = let h′ : length area < areaLength = omega arith in areaRefused h′ (same (lt-leb areaLength (length area) h′) refl)
 
   -- the number returned is 0 to 9
   pub call-number-range : cCall sheet ps budget area .number ≤ 9
@@ -290,7 +292,7 @@ module _ (sheet : List ℕ) (ps : List ℤ) (budget : ℕ) (area : List ℕ) whe
       go (answerRefused number place h a e) = ap (λ c. c .area) e
       go (stored f h a e) = absurd (z (ap (λ c. c .number) e))
 
-  -- bytes past the 24th never change
+  -- bytes past areaLength never change
   pub call-area-tail : drop areaLength (cCall sheet ps budget area .area) ≡ drop areaLength area
   unfolding areaBytes littleEndian
   call-area-tail = go callOutcome
@@ -310,7 +312,8 @@ module _ (sheet : List ℕ) (ps : List ℤ) (budget : ℕ) (area : List ℕ) whe
       go (stored f h a e) = let n = ap (λ c. length (c .area)) e in omega (arith, length-drop areaLength area)
 
   -- the figures are read back from the area
-  pub call-figures : (f : Figures) → cCall sheet ps budget area .number ≡ 0 → answer sheet ps budget ≡ ok f → f .least < 2 ^ 64 → f .most < 2 ^ 64 → f .visits < 2 ^ 64 →
+  pub call-figures : (f : Figures) → cCall sheet ps budget area .number ≡ 0 → answer sheet ps budget ≡ ok f → f .least < 2 ^ 64 → f .most < 2 ^ 64 →
+      f .visits < 2 ^ 64 →
       figuresIn (cCall sheet ps budget area .area) ≡ f
   call-figures f z a p q r = go callOutcome
     where

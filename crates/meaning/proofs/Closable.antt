@@ -1,44 +1,39 @@
 -- What closing a loop asks of what is inside it, taken apart; and that all loops inside what may be closed are closed.
 use mathlib.Core.Path.{_≡_, refl, sym, ap₂, subst}
 use mathlib.Core.List.{List, [], _∷_, _++_, map, map-append}
-use mathlib.Core.Bool.{_&&_}
+use mathlib.Core.Bool.{Bool, true, false, cond, _&&_}
 use Prim.Native.Nat.{ℕ, zero, _+_}
 use native.Mathlib.Omega.{arith}
-use lib.IntN.{ℤ, pos, negℤ}
+use lib.IntN.{ℤ}
 use lib.Signed.{leZ}
 use lib.Dec.{T, eqb, eqb→eq}
 use lib.ListN.{length}
 use Rattle.whole.specs.Integer.{divides}
 use Rattle.meaning.specs.Record.{Loop, workRecord, loopRecord, endRecord, choiceRecord, nextArmRecord, recordLength, sheetLength}
 use Rattle.meaning.specs.Tree.{Block, Arms, empty, work, loop, choice, lastArm, arm, loops, armsLoops, records, armsRecords}
-use Rattle.meaning.specs.Time.{difference}
+use Rattle.meaning.specs.Time.{difference, strideSize}
 use Rattle.meaning.specs.Range.{Range, innerRanges, differenceRange}
-use Rattle.meaning.specs.Closed.{push, pushOwn, pushInner, strideDivides, closable, closed}
+use Rattle.meaning.specs.Closed.{push, pushOwn, pushInner, strideDivides, askedDifference}
+use Rattle.meaning.specs.Closed.{closedClass, walkedClass, isClosed, closable, closed, loopClass}
 use Rattle.meaning.specs.Report.{LoopReport, allClosed, loopReports, armsReports}
 use Rattle.meaning.proofs.Logic.{T-and, and-T}
+use Rattle.meaning.proofs.Reports.{allClosed-append}
 
 -- fewer pushes to divide
 strideDivides-fewer : (l : Loop) (kept dropped : List (List ℤ)) → T (strideDivides l (kept ++ dropped)) → T (strideDivides l kept)
 unfolding strideDivides
 strideDivides-fewer l [] dropped t = tt
 strideDivides-fewer l (p ∷ kept) dropped t =
-    let first = divides (l .stride) (push (difference l) p) in
+    let first = divides (strideSize l) (push (difference l) p) in
     let tests = T-and first (strideDivides l (kept ++ dropped)) t in
     and-T first (strideDivides l kept) (tests .0) (strideDivides-fewer l kept dropped (tests .1))
-
-pub allClosed-append : (reports others : List LoopReport) → T (allClosed reports) → T (allClosed others) → T (allClosed (reports ++ others))
-unfolding allClosed
-allClosed-append [] others t u = u
-allClosed-append (r ∷ reports) others t u =
-    let tests = T-and (r .closed) (allClosed reports) t in
-    and-T (r .closed) (allClosed (reports ++ others)) (tests .0) (allClosed-append reports others (tests .1) u)
 
 module _ (ps : List ℤ) where
   -- ---- the tests
 
   -- of a loop inside, and of what follows it
   pub record LoopClosable (l : Loop) (body rest : Block) (ranges : List Range) (pushes : List (List ℤ)) : Type 0 where
-    pub smallest : T (leZ (negℤ (pos (l .stride))) (differenceRange ps l ranges .lo))
+    pub smallest : T (leZ (askedDifference l) (differenceRange ps l ranges .lo))
     pub divided : T (strideDivides l pushes)
     pub bodyClosable : T (closable ps body (innerRanges ps l ranges) (pushOwn l (length ranges) ∷ map (pushInner l) pushes))
     pub restClosable : T (closable ps rest ranges pushes)
@@ -47,7 +42,7 @@ module _ (ps : List ℤ) where
       T (closable ps (loop l body rest) ranges pushes) → LoopClosable l body rest ranges pushes
   unfolding closable
   closable-loop l body rest ranges pushes t =
-      let smallest = leZ (negℤ (pos (l .stride))) (differenceRange ps l ranges .lo) in
+      let smallest = leZ (askedDifference l) (differenceRange ps l ranges .lo) in
       let divided = strideDivides l pushes in
       let inside = closable ps body (innerRanges ps l ranges) (pushOwn l (length ranges) ∷ map (pushInner l) pushes) in
       let three = T-and (smallest && divided && inside) (closable ps rest ranges pushes) t in
@@ -59,7 +54,7 @@ module _ (ps : List ℤ) where
       LoopClosable l body rest ranges pushes → T (closable ps (loop l body rest) ranges pushes)
   unfolding closable
   loop-closable l body rest ranges pushes tests =
-      let smallest = leZ (negℤ (pos (l .stride))) (differenceRange ps l ranges .lo) in
+      let smallest = leZ (askedDifference l) (differenceRange ps l ranges .lo) in
       let divided = strideDivides l pushes in
       let inside = closable ps body (innerRanges ps l ranges) (pushOwn l (length ranges) ∷ map (pushInner l) pushes) in
       let two = and-T smallest divided (tests .smallest) (tests .divided) in
@@ -74,10 +69,29 @@ module _ (ps : List ℤ) where
       let both = T-and (eqb (armsLoops arms) zero) (closable ps rest ranges pushes) t in
       (eqb→eq (armsLoops arms) zero (both .0), both .1)
 
+  -- ---- a loop's class
+
+  pub class-closed : (l : Loop) (body : Block) (ranges : List Range) → T (isClosed (loopClass ps l body ranges)) → T (closed ps l body ranges)
+  unfolding loopClass
+  class-closed l body ranges t = go (closed ps l body ranges) t
+    where
+      go : (b : Bool) → T (isClosed (cond b closedClass walkedClass)) → T b
+      go true t = tt
+      go false t = unfold isClosed in absurd t
+
+  closed-class : (l : Loop) (body : Block) (ranges : List Range) → T (closed ps l body ranges) → T (isClosed (loopClass ps l body ranges))
+  unfolding loopClass
+  closed-class l body ranges t = go (closed ps l body ranges) t
+    where
+      go : (b : Bool) → T b → T (isClosed (cond b closedClass walkedClass))
+      go true t = unfold isClosed in tt
+      go false t = absurd t
+
   -- ---- loops inside are closed
 
   -- the pushes of outer loops left out, less is asked
-  pub closable-fewer : (b : Block) (ranges : List Range) (kept dropped : List (List ℤ)) → T (closable ps b ranges (kept ++ dropped)) → T (closable ps b ranges kept)
+  pub closable-fewer : (b : Block) (ranges : List Range) (kept dropped : List (List ℤ)) → T (closable ps b ranges (kept ++ dropped)) →
+      T (closable ps b ranges kept)
   unfolding closable
   closable-fewer empty ranges kept dropped t = tt
   closable-fewer (work least most rest) ranges kept dropped t = closable-fewer rest ranges kept dropped t
@@ -114,7 +128,8 @@ module _ (ps : List ℤ) where
     no-armsReports (arm b arms) ranges at h =
         ap₂ _++_ (no-reports b ranges at (omega arith)) (no-armsReports arms ranges (at + sheetLength (records b) + recordLength nextArmRecord) (omega arith))
 
-  pub closable-closed : (b : Block) (ranges : List Range) (pushes : List (List ℤ)) (at : ℕ) → T (closable ps b ranges pushes) → T (allClosed (loopReports ps b ranges at))
+  pub closable-closed : (b : Block) (ranges : List Range) (pushes : List (List ℤ)) (at : ℕ) → T (closable ps b ranges pushes) →
+      T (allClosed (loopReports ps b ranges at))
   unfolding loopReports allClosed closed closable
   closable-closed empty ranges pushes at t = tt
   closable-closed (work least most rest) ranges pushes at t = closable-closed rest ranges pushes (at + recordLength (workRecord least most)) t
@@ -126,11 +141,12 @@ module _ (ps : List ℤ) where
       let restAt : ℕ = bodyAt + sheetLength (records body) + recordLength endRecord in
       let inside = closable-closed body inner (own ∷ map (pushInner l) pushes) bodyAt (tests .bodyClosable) in
       let after = closable-closed rest ranges pushes restAt (tests .restClosable) in
-      and-T (closed ps l body ranges) (allClosed (loopReports ps body inner bodyAt ++ loopReports ps rest ranges restAt))
-      (closable-fewer body inner (own ∷ []) (map (pushInner l) pushes) (tests .bodyClosable))
-      (allClosed-append (loopReports ps body inner bodyAt) (loopReports ps rest ranges restAt) inside after)
+      and-T (isClosed (loopClass ps l body ranges)) (allClosed (loopReports ps body inner bodyAt ++ loopReports ps rest ranges restAt))
+      (closed-class l body ranges (closable-fewer body inner (own ∷ []) (map (pushInner l) pushes) (tests .bodyClosable)))
+      (allClosed-append (loopReports ps body inner bodyAt) (loopReports ps rest ranges restAt) .1 (inside, after))
   closable-closed (choice arms rest) ranges pushes at t =
       let tests = closable-choice arms rest ranges pushes t in
       let restAt : ℕ = at + recordLength choiceRecord + sheetLength (armsRecords arms) + recordLength endRecord in
       let none = no-armsReports arms ranges (at + recordLength choiceRecord) (tests .0) in
-      subst (λ (reports : List LoopReport). T (allClosed (reports ++ loopReports ps rest ranges restAt))) (sym none) (closable-closed rest ranges pushes restAt (tests .1))
+      subst (λ (reports : List LoopReport). T (allClosed (reports ++ loopReports ps rest ranges restAt))) (sym none)
+      (closable-closed rest ranges pushes restAt (tests .1))

@@ -5,7 +5,7 @@ use mathlib.Core.Logic.{_⊎_, inl, inr}
 use Prim.Native.Nat.{ℕ, zero, suc, _+_, min, _≤_, _<_}
 use native.Mathlib.Decide.{decLe}
 use native.Mathlib.Omega.{arith}
-use lib.IntN.{ℤ, pos, negℤ, sucℤ, _+ℤ_, sucℤ-+ℤ}
+use lib.IntN.{ℤ, pos, sucℤ, _+ℤ_, sucℤ-+ℤ}
 use lib.Signed.{leZ}
 use lib.Dec.{T}
 use lib.ListN.{length, length-append}
@@ -21,9 +21,10 @@ use Rattle.whole.proofs.Newton.{values-append-one, newton-sum, degree-vanish}
 use Rattle.meaning.specs.Form.{value}
 use Rattle.meaning.specs.Record.{Loop}
 use Rattle.meaning.specs.Tree.{Block, Arms, empty, work, loop, choice, lastArm, arm, height, loops, armsLoops}
-use Rattle.meaning.specs.Time.{Bounds, bounds, exactly, _⊕_, hull, difference, sumOver, tripCount, trips, innerIndexes, time, armsTime}
+use Rattle.meaning.specs.Time.{Bounds, bounds, exactly, _⊕_, hull, difference, strideSize, entryCost}
+use Rattle.meaning.specs.Time.{sumOver, tripCount, trips, innerIndexes, time, armsTime}
 use Rattle.meaning.specs.Range.{Range, range, indexRange, innerRanges, differenceRange}
-use Rattle.meaning.specs.Closed.{pushOwn, pushInner, strideDivides, closable, closed}
+use Rattle.meaning.specs.Closed.{pushOwn, pushInner, strideDivides, askedDifference, closable, closed}
 use Rattle.meaning.specs.Report.{allClosed, loopReports}
 use Rattle.meaning.specs.ClosedSum.{closedSum}
 use Rattle.meaning.proofs.Sound.{Sound}
@@ -53,7 +54,8 @@ module _ (ps : List ℤ) where
     time-without-loops empty indexes h = refl
     time-without-loops (work least most rest) indexes h = ap (λ (x : Bounds). bounds least most ⊕ x) (time-without-loops rest indexes h)
     time-without-loops (loop l body rest) indexes h = absurd (omega arith)
-    time-without-loops (choice arms rest) indexes h = ap₂ _⊕_ (armsTime-without-loops arms indexes (omega arith)) (time-without-loops rest indexes (omega arith))
+    time-without-loops (choice arms rest) indexes h =
+        ap₂ _⊕_ (armsTime-without-loops arms indexes (omega arith)) (time-without-loops rest indexes (omega arith))
 
     armsTime-without-loops : (arms : Arms) (indexes : List ℤ) → armsLoops arms ≡ zero → armsTime ps arms indexes ≡ armsTime ps arms []
     armsTime-without-loops (lastArm b) indexes h = time-without-loops b indexes h
@@ -68,25 +70,33 @@ module _ (ps : List ℤ) where
   follows-loop l ranges pushes indexesAt follows =
       let k = length-append ranges (indexRange ps l ranges ∷ []) in
       let depth : suc (length ranges) ≡ length (ranges ++ (indexRange ps l ranges ∷ [])) = omega arith in
-      subst (Follows (insideAt ps l indexesAt) (pushOwn l (length ranges) ∷ map (pushInner l) pushes)) depth (follows-inside ps l indexesAt pushes (length ranges) follows)
+      subst (Follows (insideAt ps l indexesAt) (pushOwn l (length ranges) ∷ map (pushInner l) pushes)) depth
+      (follows-inside ps l indexesAt pushes (length ranges) follows)
 
   -- floor(D ÷ stride) + 1: the trips, where it is not negative
   unfoldable pub signedTrips : Loop → List ℤ → ℤ
-  signedTrips l indexes = sucℤ (floorDivide (value ps (difference l) indexes) (l .stride))
+  signedTrips l indexes = sucℤ (floorDivide (value ps (difference l) indexes) (strideSize l))
 
   -- it is not, where the smallest D is at least minus the stride
-  pub trips-signed : (l : Loop) (ranges : List Range) (indexes : List ℤ) → T (leZ (negℤ (pos (l .stride))) (differenceRange ps l ranges .lo)) → Inside indexes ranges →
+  pub trips-signed : (l : Loop) (ranges : List Range) (indexes : List ℤ) → T (leZ (askedDifference l) (differenceRange ps l ranges .lo)) →
+      Inside indexes ranges →
       pos (trips ps l indexes) ≡ signedTrips l indexes
-  unfolding signedTrips trips tripCount differenceRange
+  unfolding signedTrips trips tripCount differenceRange askedDifference
   trips-signed l ranges indexes smallest inside =
       let d : ℤ = value ps (difference l) indexes in
       let lo : ℤ = range ps (difference l) ranges .lo in
-      let bound : ℤ = negℤ (pos (l .stride)) in
+      let bound : ℤ = askedDifference l in
       let above = AtMost-trans bound lo d (leZ→AtMost bound lo smallest) (value-inside ps (difference l) ranges indexes inside .low) in
-      count-exact d (l .stride) (AtMost→leZ bound d above)
+      count-exact d (strideSize l) (AtMost→leZ bound d above)
+
+  -- and entering the loop costs the same whatever its trips are
+  entry-fixed : (l : Loop) (ranges : List Range) (indexes : List ℤ) → T (leZ (askedDifference l) (differenceRange ps l ranges .lo)) →
+      Inside indexes ranges → entryCost l (trips ps l indexes) ≡ entryCost l 1
+  unfolding entryCost
+  entry-fixed l ranges indexes smallest inside = refl
 
   -- a move of the counters adds to it what it adds to D, divided by the stride
-  signedTrips-affine : (l : Loop) → 1 ≤ l .stride → (indexesAt : List ℤ → List ℤ) (pushes : List (List ℤ)) (depth : ℕ) → Follows indexesAt pushes depth →
+  signedTrips-affine : (l : Loop) → 1 ≤ strideSize l → (indexesAt : List ℤ → List ℤ) (pushes : List (List ℤ)) (depth : ℕ) → Follows indexesAt pushes depth →
       (divided : T (strideDivides l pushes)) (counters steps : List ℤ) →
       signedTrips l (indexesAt (counters ⊞ steps)) ≡ signedTrips l (indexesAt counters) +ℤ strideDivides-moves l depth pushes divided steps .0
   unfolding signedTrips
@@ -94,9 +104,9 @@ module _ (ps : List ℤ) where
       let d : ℤ = value ps (difference l) (indexesAt counters) in
       let quotient = strideDivides-moves l depth pushes divided steps in
       let e = value-follows ps indexesAt pushes depth follows (difference l) counters steps ∙ ap (λ (z : ℤ). d +ℤ z) (quotient .1) in
-      ap (λ (z : ℤ). sucℤ (floorDivide z (l .stride))) e
-      ∙ ap sucℤ (floor-shift (l .stride) moves d (quotient .0))
-      ∙ sym (sucℤ-+ℤ (floorDivide d (l .stride)) (quotient .0))
+      ap (λ (z : ℤ). sucℤ (floorDivide z (strideSize l))) e
+      ∙ ap sucℤ (floor-shift (strideSize l) moves d (quotient .0))
+      ∙ sym (sucℤ-+ℤ (floorDivide d (strideSize l)) (quotient .0))
 
   -- ---- amounts that are polynomials
 
@@ -106,12 +116,12 @@ module _ (ps : List ℤ) where
     pub degreeAtMost : Degree _⊞_ degree polynomial
     pub agrees : (counters : List ℤ) → Inside (indexesAt counters) ranges → pos (amount (indexesAt counters)) ≡ polynomial counters
 
-  polynomial-constant : {degree : ℕ} {indexesAt : List ℤ → List ℤ} {ranges : List Range} (amount : List ℤ → ℕ) (n : ℕ) → ((indexes : List ℤ) → amount indexes ≡ n) →
-      Polynomial degree indexesAt ranges amount
+  polynomial-constant : {degree : ℕ} {indexesAt : List ℤ → List ℤ} {ranges : List Range} (amount : List ℤ → ℕ) (n : ℕ) →
+      ((indexes : List ℤ) → Inside indexes ranges → amount indexes ≡ n) → Polynomial degree indexesAt ranges amount
   polynomial-constant {degree} {indexesAt} amount n e = record {
     polynomial = λ counters. pos n;
     degreeAtMost = degree-constant _⊞_ degree (pos n);
-    agrees = λ counters inside. ap pos (e (indexesAt counters));
+    agrees = λ counters inside. ap pos (e (indexesAt counters) inside);
   }
 
   polynomial-le : {degree larger : ℕ} {indexesAt : List ℤ → List ℤ} {ranges : List Range} {amount : List ℤ → ℕ} → degree ≤ larger →
@@ -130,7 +140,8 @@ module _ (ps : List ℤ) where
   trip-agrees {amount = amount} l ranges indexesAt p counters inside trip made =
       let e = indexesInside-trip ps l (indexesAt counters) trip in
       let within = trips-inside ps l ranges (indexesAt counters) trip inside made in
-      ap (λ (inner : List ℤ). pos (amount inner)) e ∙ p .agrees (pos trip ∷ counters) (subst (λ (inner : List ℤ). Inside inner (innerRanges ps l ranges)) e within)
+      ap (λ (inner : List ℤ). pos (amount inner)) e
+      ∙ p .agrees (pos trip ∷ counters) (subst (λ (inner : List ℤ). Inside inner (innerRanges ps l ranges)) e within)
 
   -- ---- one of the two figures, least or most, of what may be summed
 
@@ -150,13 +161,14 @@ module _ (ps : List ℤ) where
 
     -- what does not depend on the indexes
     polynomial-fixed : {degree : ℕ} {indexesAt : List ℤ → List ℤ} {ranges : List Range} (b : Bounds) → Polynomial degree indexesAt ranges (λ indexes. figure b)
-    polynomial-fixed b = polynomial-constant (λ indexes. figure b) (figure b) (λ indexes. refl)
+    polynomial-fixed b = polynomial-constant (λ indexes. figure b) (figure b) (λ indexes inside. refl)
 
     -- arms without loops
     polynomial-arms : {degree : ℕ} {indexesAt : List ℤ → List ℤ} {ranges : List Range} (arms : Arms) → armsLoops arms ≡ zero →
         Polynomial degree indexesAt ranges (λ indexes. figure (armsTime ps arms indexes))
     polynomial-arms arms none =
-        polynomial-constant (λ indexes. figure (armsTime ps arms indexes)) (figure (armsTime ps arms [])) (λ indexes. ap figure (armsTime-without-loops arms indexes none))
+        polynomial-constant (λ indexes. figure (armsTime ps arms indexes)) (figure (armsTime ps arms []))
+        (λ indexes inside. ap figure (armsTime-without-loops arms indexes none))
 
     -- what follows one another
     polynomial-⊕ : {degree : ℕ} {indexesAt : List ℤ → List ℤ} {ranges : List Range} {first second : List ℤ → Bounds} →
@@ -170,8 +182,8 @@ module _ (ps : List ℤ) where
     }
 
     -- the sum of a loop's trips: one degree more
-    polynomial-loop : {degree : ℕ} (l : Loop) → 1 ≤ l .stride → (body : Block) (ranges : List Range) (pushes : List (List ℤ)) (indexesAt : List ℤ → List ℤ) →
-        Follows indexesAt pushes (length ranges) → T (leZ (negℤ (pos (l .stride))) (differenceRange ps l ranges .lo)) → T (strideDivides l pushes) →
+    polynomial-loop : {degree : ℕ} (l : Loop) → 1 ≤ strideSize l → (body : Block) (ranges : List Range) (pushes : List (List ℤ)) (indexesAt : List ℤ → List ℤ) →
+        Follows indexesAt pushes (length ranges) → T (leZ (askedDifference l) (differenceRange ps l ranges .lo)) → T (strideDivides l pushes) →
         Polynomial degree (insideAt ps l indexesAt) (innerRanges ps l ranges) (λ inner. figure (time ps body inner ⊕ exactly (l .step))) →
         Polynomial (suc degree) indexesAt ranges (λ indexes. figure (sumOver (trips ps l indexes) (tripTime ps l body indexes)))
     polynomial-loop {degree} l moves body ranges pushes indexesAt follows smallest divided p =
@@ -191,7 +203,8 @@ module _ (ps : List ℤ) where
         }
 
     -- the time of a block is of a degree at most its height
-    pub polynomial-time : (b : Block) → Sound b → (ranges : List Range) (pushes : List (List ℤ)) (indexesAt : List ℤ → List ℤ) → Follows indexesAt pushes (length ranges) →
+    pub polynomial-time : (b : Block) → Sound b → (ranges : List Range) (pushes : List (List ℤ)) (indexesAt : List ℤ → List ℤ) →
+        Follows indexesAt pushes (length ranges) →
         T (closable ps b ranges pushes) → Polynomial (height b) indexesAt ranges (λ indexes. figure (time ps b indexes))
     unfolding closable height time Sound
     polynomial-time empty sound ranges pushes indexesAt follows t = polynomial-fixed (exactly zero)
@@ -205,14 +218,17 @@ module _ (ps : List ℤ) where
         let trip = polynomial-⊕ inside (polynomial-fixed (exactly (l .step))) in
         let all = polynomial-loop l (sound .0 .moves) body ranges pushes indexesAt follows (tests .smallest) (tests .divided) trip in
         let after = polynomial-time rest (sound .2) ranges pushes indexesAt follows (tests .restClosable) in
-        polynomial-⊕ (polynomial-⊕ (polynomial-fixed (exactly (l .start))) (polynomial-le (omega arith) all)) (polynomial-le (omega arith) after)
+        let entry = polynomial-constant (λ indexes. figure (exactly (entryCost l (trips ps l indexes)))) (figure (exactly (entryCost l 1)))
+        (λ indexes inside. ap (λ (n : ℕ). figure (exactly n)) (entry-fixed l ranges indexes (tests .smallest) inside)) in
+        polynomial-⊕ (polynomial-⊕ entry (polynomial-le (omega arith) all)) (polynomial-le (omega arith) after)
     polynomial-time (choice arms rest) sound ranges pushes indexesAt follows t =
         let tests = closable-choice ps arms rest ranges pushes t in
         let after = polynomial-time rest (sound .1) ranges pushes indexesAt follows (tests .1) in
         polynomial-⊕ (polynomial-arms arms (tests .0)) (polynomial-le (omega arith) after)
 
     -- the trips of a closed loop, in its own counter alone
-    pub polynomial-closed : (l : Loop) (body : Block) → Sound body → (ranges : List Range) (indexes : List ℤ) → Inside indexes ranges → T (closed ps l body ranges) →
+    pub polynomial-closed : (l : Loop) (body : Block) → Sound body → (ranges : List Range) (indexes : List ℤ) → Inside indexes ranges →
+        T (closed ps l body ranges) →
         Polynomial (height body) (insideAt ps l (λ counters. indexes)) (innerRanges ps l ranges) (λ inner. figure (time ps body inner ⊕ exactly (l .step)))
     unfolding closed
     polynomial-closed l body sound ranges indexes inside t =
@@ -221,7 +237,8 @@ module _ (ps : List ℤ) where
         polynomial-⊕ p (polynomial-fixed (exactly (l .step)))
 
     -- so its sum follows from the visited trips
-    pub closed-figure-exact : (l : Loop) (body : Block) → Sound body → (ranges : List Range) (indexes : List ℤ) → Inside indexes ranges → T (closed ps l body ranges) →
+    pub closed-figure-exact : (l : Loop) (body : Block) → Sound body → (ranges : List Range) (indexes : List ℤ) → Inside indexes ranges →
+        T (closed ps l body ranges) →
         newtonSum (trips ps l indexes) (map (λ b. pos (figure b)) (firstSums (min (trips ps l indexes) (suc (height body))) (tripTime ps l body indexes)))
         ≡ pos (figure (sumOver (trips ps l indexes) (tripTime ps l body indexes)))
     closed-figure-exact l body sound ranges indexes inside t =

@@ -1,26 +1,39 @@
 -- Unfolding `computes` unfolds every definition, so that a statement about a given sheet is computed.
 use Rattle.meaning.specs.Number.{unsigned, littleEndian, decodeSigned, encodeSigned, hasPattern, unsigned16, signed16, signed8}
 use Rattle.meaning.specs.Form.{formAt, formBytes, isZero, allZero, factorsFit, formInRange, value, subtract}
-use Rattle.meaning.specs.Record.{kindNumber, kindOf, bodyLength, kind, recordLength, decodeRecord, bodyBytes, recordBytes, sheetBytes, sheetLength, loopDepth, fieldsInRange, openAfter}
+use Rattle.meaning.specs.Record.{kindNumber, kindOf, bodyLength, kind, recordLength, decodeRecord, bodyBytes}
+use Rattle.meaning.specs.Record.{recordBytes, sheetBytes, sheetLength, loopDepth, fieldsInRange, openAfter}
 use Rattle.meaning.specs.Reader.{require, orRefuse, andThen, accept, readRecord, endOfSheet, readFrom, read, headOf, headAt, bodyOf, bodyAt}
 use Rattle.meaning.specs.Writer.{workFieldsZero, formZero, loopFieldsZero, foreignFieldsZero, recordOf, checkRecord, checkFrom, check, store, write}
 use Rattle.meaning.specs.Tree.{onFirst, takeBody, takeArms, segments, firstSegment, tree, records, armsRecords, loops, armsLoops, height, armsHeight}
-use Rattle.meaning.specs.Time.{difference, tripCount, sumOver, trips, indexAt, innerIndexes, time, armsTime}
+use Rattle.meaning.specs.Time.{difference, signedStride, strideSize, entryCost, tripCount, sumOver, trips, indexAt, innerIndexes, time, armsTime}
 use Rattle.meaning.specs.Run.{TripsRun, Run, ArmRun}
 use Rattle.meaning.specs.Range.{scale, addRange, dotRange, range, indexRange, innerRanges, differenceRange, ceiling}
-use Rattle.meaning.specs.Closed.{push, pushOwn, pushInner, strideDivides, closable, closed}
-use Rattle.meaning.specs.Visits.{countOver, visitedTrips, visits, armsVisits}
+use Rattle.meaning.specs.Closed.{push, pushOwn, pushInner, strideDivides, askedDifference, isClosed, closable, closed, loopClass}
+use Rattle.meaning.specs.Visits.{countOver, visitedOf, visitedTrips, visits, armsVisits}
 use Rattle.meaning.specs.Report.{orElse, firstOverCeiling, allClosed, loopReports, armsReports}
 use Rattle.meaning.specs.ClosedSum.{closedSum, addAll, loopSum, addTrip}
-use Rattle.meaning.specs.Stage.{firstState, afterEnd, addArm, stateOf, visitBegun, andOn, indexesOf, rangesOf, enterLoop, endTrip, passRecord, pass, passFrom, stage, stages, visitsBegun}
+use Rattle.meaning.specs.Stage.{firstState, afterEnd, addArm, stateOf, visitBegun, andOn, indexesOf, rangesOf}
+use Rattle.meaning.specs.Stage.{enterLoop, endTrip, passRecord, pass, passFrom, stage, stages, visitsBegun}
 use Rattle.meaning.specs.Answer.{sheetReports, checkCeilings, accepted, figuresOf, checkVisits, answer}
 use Rattle.meaning.specs.CCall.{areaBytes, storeAnswer, cCall, figuresIn}
 use Rattle.meaning.specs.Text.{text, lastDigit, digits, decimal}
-use Rattle.meaning.specs.Program.{figuresLine, loopLine, loopLines, refusedLine, answerText, inputParameters, inputBudget, inputSheet, reportsOf, programText}
+use Rattle.meaning.specs.Program.{figuresLine, className, loopLine, loopLines, refusedLine, answerText}
+use Rattle.meaning.specs.Program.{inputParameters, inputBudget, inputSheet, reportsOf, programText}
 use Rattle.meaning.proofs.Vocabulary.{hexDigit, hex, sheetReportsOf, stateAfter}
 use Rattle.whole.specs.Integer.{floorDivide}
 use Rattle.whole.specs.Newton.{choose, differences, newtonTerms, newtonSum}
 
 unfoldable pub computes : Unit {0}
-unfolding unsigned littleEndian decodeSigned encodeSigned hasPattern unsigned16 signed16 signed8 formAt formBytes isZero allZero factorsFit formInRange value subtract kindNumber kindOf bodyLength kind recordLength decodeRecord bodyBytes recordBytes sheetBytes sheetLength loopDepth fieldsInRange openAfter require orRefuse andThen accept readRecord endOfSheet readFrom read headOf headAt bodyOf bodyAt workFieldsZero formZero loopFieldsZero foreignFieldsZero recordOf checkRecord checkFrom check store write onFirst takeBody takeArms segments firstSegment tree records armsRecords loops armsLoops height armsHeight difference tripCount sumOver trips indexAt innerIndexes time armsTime TripsRun Run ArmRun scale addRange dotRange range indexRange innerRanges differenceRange ceiling push pushOwn pushInner strideDivides closable closed countOver visitedTrips visits armsVisits orElse firstOverCeiling allClosed loopReports armsReports closedSum addAll loopSum addTrip firstState afterEnd addArm stateOf visitBegun andOn indexesOf rangesOf enterLoop endTrip passRecord pass passFrom stage stages visitsBegun sheetReports checkCeilings accepted figuresOf checkVisits answer areaBytes storeAnswer cCall figuresIn text lastDigit digits decimal figuresLine loopLine loopLines refusedLine answerText inputParameters inputBudget inputSheet reportsOf programText hexDigit hex sheetReportsOf stateAfter floorDivide choose differences newtonTerms newtonSum
+unfolding unsigned littleEndian decodeSigned encodeSigned hasPattern unsigned16 signed16 signed8 formAt formBytes isZero allZero factorsFit formInRange value
+    subtract kindNumber kindOf bodyLength kind recordLength decodeRecord bodyBytes recordBytes sheetBytes sheetLength loopDepth fieldsInRange openAfter
+    require orRefuse andThen accept readRecord endOfSheet readFrom read headOf headAt bodyOf bodyAt workFieldsZero formZero loopFieldsZero
+    foreignFieldsZero recordOf checkRecord checkFrom check store write onFirst takeBody takeArms segments firstSegment tree records armsRecords loops
+    armsLoops height armsHeight difference signedStride strideSize entryCost tripCount sumOver trips indexAt innerIndexes time armsTime TripsRun Run
+    ArmRun scale addRange dotRange range indexRange innerRanges differenceRange ceiling push pushOwn pushInner strideDivides askedDifference isClosed
+    closable closed loopClass countOver visitedOf visitedTrips visits armsVisits orElse firstOverCeiling allClosed loopReports armsReports closedSum
+    addAll loopSum addTrip firstState afterEnd addArm stateOf visitBegun andOn indexesOf rangesOf enterLoop endTrip passRecord pass passFrom stage stages
+    visitsBegun sheetReports checkCeilings accepted figuresOf checkVisits answer areaBytes storeAnswer cCall figuresIn text lastDigit digits decimal
+    figuresLine className loopLine loopLines refusedLine answerText inputParameters inputBudget inputSheet reportsOf programText hexDigit hex
+    sheetReportsOf stateAfter floorDivide choose differences newtonTerms newtonSum
 computes = tt

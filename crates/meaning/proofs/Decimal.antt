@@ -41,7 +41,8 @@ pub record StartsNonzero (cs : List ℕ) : Type 0 where
   pub nonzero : 48 < first
 
 starts-nonzero-last : (cs : List ℕ) (c : ℕ) → StartsNonzero cs → StartsNonzero (cs ++ (c ∷ []))
-starts-nonzero-last cs c s = record { first = s .first; others = s .others ++ (c ∷ []); same = ap (λ (x : List ℕ). x ++ (c ∷ [])) (s .same); nonzero = s .nonzero }
+starts-nonzero-last cs c s =
+    record { first = s .first; others = s .others ++ (c ∷ []); same = ap (λ (x : List ℕ). x ++ (c ∷ [])) (s .same); nonzero = s .nonzero }
 
 digits-numeral : (more n : ℕ) → n < 10 ^ more → numeral (digits more n) ≡ n
 unfolding digits numeral numeralAfter
@@ -50,7 +51,8 @@ digits-numeral (suc more) n h = go (ltb n 10) refl (λ m k. digits-numeral more 
   where
     go : (c : Bool) → ltb n 10 ≡ c → ((m : ℕ) → m < 10 ^ more → numeral (digits more m) ≡ m) → numeral (lastDigit c n (λ m. digits more m)) ≡ n
     go true e i = unfold lastDigit in omega arith
-    go false e i = unfold lastDigit in (let k = i (n / 10) (omega (arith, pow-suc 10 more)) in numeral-last 0 (digits more (n / 10)) (48 + n % 10) ∙ omega arith)
+    go false e i =
+        unfold lastDigit in (let k = i (n / 10) (omega (arith, pow-suc 10 more)) in numeral-last 0 (digits more (n / 10)) (48 + n % 10) ∙ omega arith)
 
 digits-digits : (more n : ℕ) → AllDigits (digits more n)
 unfolding digits AllDigits

@@ -1,8 +1,7 @@
--- Where every loop is closed the visits are few: at most the factorial of the height for each loop, hence at most 24.
-use mathlib.Core.Bool.{Bool, true, false, cond}
+-- Where every loop is closed the visits are few: at most the factorial of the height for each loop, hence at most visitsPerLoop.
 use mathlib.Core.List.{List, [], _++_}
-use Prim.Native.Nat.{ℕ, zero, suc, _+_, _*_, min, _≤_}
-use native.Mathlib.Nat.{mul-le-mul-right, mul-le-mul-left, mul-add, add-mul, mul-assoc, mul-suc, mul-pos, le-trans}
+use Prim.Native.Nat.{ℕ, zero, suc, _+_, _*_, _≤_}
+use native.Mathlib.Nat.{mul-le-mul-right, mul-le-mul-left, mul-add, mul-assoc, mul-suc, mul-pos, le-trans}
 use native.Mathlib.Omega.{arith}
 use lib.IntN.{ℤ}
 use lib.Dec.{T}
@@ -11,12 +10,12 @@ use Rattle.meaning.specs.Record.{workRecord, loopRecord, endRecord, choi
 use Rattle.meaning.specs.Tree.{Block, Arms, empty, work, loop, choice, lastArm, arm, records, armsRecords, loops, armsLoops, height, armsHeight}
 use Rattle.meaning.specs.Time.{trips, innerIndexes}
 use Rattle.meaning.specs.Range.{Range, innerRanges}
-use Rattle.meaning.specs.Closed.{closed}
-use Rattle.meaning.specs.Visits.{countOver, visitedTrips, visits, armsVisits}
+use Rattle.meaning.specs.Closed.{LoopClass, closedClass, walkedClass, isClosed, loopClass}
+use Rattle.meaning.specs.Visits.{visitedOf, visitedTrips, visits, armsVisits}
 use Rattle.meaning.specs.Report.{loopReports, armsReports, allClosed}
 use Rattle.meaning.proofs.Logic.{T-and}
-use Rattle.meaning.proofs.Reports.{all-closed-append}
-use Rattle.meaning.proofs.Trips.{tripVisits}
+use Rattle.meaning.proofs.Reports.{allClosed-append}
+use Rattle.meaning.proofs.Trips.{tripVisits, count-over-bound}
 
 unfoldable pub factorial : ℕ → ℕ
 factorial zero = 1
@@ -27,14 +26,10 @@ unfolding factorial
 factorial-positive zero = omega arith
 factorial-positive (suc n) = mul-pos {m = suc n} (omega arith) (factorial-positive n)
 
-count-over-bound : (n : ℕ) (f : ℕ → ℕ) (c : ℕ) → ((k : ℕ) → f k ≤ c) → countOver n f ≤ n * c
-unfolding countOver
-count-over-bound zero f c h = omega arith
-count-over-bound (suc n) f c h = let i = count-over-bound n f c h in let j = h n in omega (arith, add-mul n 1 c)
-
-visited-at-most : (c : Bool) → T c → (n m : ℕ) → cond c (min n m) n ≤ m
-visited-at-most true t n m = omega arith
-visited-at-most false t n m = absurd t
+visited-at-most : (class : LoopClass) → T (isClosed class) → (n h : ℕ) → visitedOf class h n ≤ suc h
+unfolding visitedOf isClosed
+visited-at-most closedClass t n h = omega arith
+visited-at-most walkedClass t n h = absurd t
 
 -- n trips, at most d, with f visits for each of the inner loops and one of their own: d * f for each of these loops and the outer one
 trips-visits-bound : (n d f inner : ℕ) → 1 ≤ f → n ≤ d → n * suc (f * inner) ≤ d * f * suc inner
@@ -56,14 +51,14 @@ module _ (ps : List ℤ) where
         let afterEnd = afterLoop + sheetLength (records body) + recordLength endRecord in
         let inside = loopReports ps body (innerRanges ps l ranges) afterLoop in
         let behind = loopReports ps rest ranges afterEnd in
-        let p = T-and (closed ps l body ranges) (allClosed (inside ++ behind)) c in
-        let q = all-closed-append inside behind (p .1) in
+        let p = T-and (isClosed (loopClass ps l body ranges)) (allClosed (inside ++ behind)) c in
+        let q = allClosed-append inside behind .0 (p .1) in
         let j = few-visits rest ranges indexes afterEnd (suc d) (q .1) (omega arith) in
         let n = visitedTrips ps l body ranges (trips ps l indexes) in
-        let m : n ≤ suc d = le-trans (visited-at-most (closed ps l body ranges) (p .0) (trips ps l indexes) (suc (height body))) (omega arith) in
+        let m : n ≤ suc d = le-trans (visited-at-most (loopClass ps l body ranges) (p .0) (trips ps l indexes) (height body)) (omega arith) in
         omega (
           arith,
-          count-over-bound n (tripVisits ps l body ranges indexes) (suc (factorial d * loops body)) (λ trip.
+          count-over-bound n (tripVisits ps l body ranges indexes) (suc (factorial d * loops body)) (λ trip less.
               omega (arith, few-visits body (innerRanges ps l ranges) (innerIndexes ps l indexes trip) afterLoop d (q .0) (omega arith))),
           trips-visits-bound n (suc d) (factorial d) (loops body) (factorial-positive d) m,
           mul-add (suc d * factorial d) (suc (loops body)) (loops rest),
@@ -71,7 +66,7 @@ module _ (ps : List ℤ) where
     few-visits (choice arms rest) ranges indexes at d c h =
         let afterChoice = at + recordLength choiceRecord in
         let afterEnd = afterChoice + sheetLength (armsRecords arms) + recordLength endRecord in
-        let q = all-closed-append (armsReports ps arms ranges afterChoice) (loopReports ps rest ranges afterEnd) c in
+        let q = allClosed-append (armsReports ps arms ranges afterChoice) (loopReports ps rest ranges afterEnd) .0 c in
         let i = arms-few-visits arms ranges indexes afterChoice d (q .0) (omega arith) in
         let j = few-visits rest ranges indexes afterEnd d (q .1) (omega arith) in
         omega (arith, mul-add (factorial d) (armsLoops arms) (loops rest))
@@ -81,12 +76,12 @@ module _ (ps : List ℤ) where
     arms-few-visits (lastArm b) ranges indexes at d c h = few-visits b ranges indexes at d c h
     arms-few-visits (arm b arms) ranges indexes at d c h =
         let afterNextArm = at + sheetLength (records b) + recordLength nextArmRecord in
-        let q = all-closed-append (loopReports ps b ranges at) (armsReports ps arms ranges afterNextArm) c in
+        let q = allClosed-append (loopReports ps b ranges at) (armsReports ps arms ranges afterNextArm) .0 c in
         let i = few-visits b ranges indexes at d (q .0) (omega arith) in
         let j = arms-few-visits arms ranges indexes afterNextArm d (q .1) (omega arith) in
         omega (arith, mul-add (factorial d) (loops b) (armsLoops arms))
 
--- loops are at most 4 deep, and the factorial of 4 is 24
+-- loops are at most depthLimit deep, and its factorial is visitsPerLoop
 pub visits-few : (ps : List ℤ) (b : Block) → height b ≤ depthLimit → (at : ℕ) → T (allClosed (loopReports ps b [] at)) →
     visits ps b [] [] ≤ visitsPerLoop * loops b
 unfolding factorial

@@ -1,15 +1,15 @@
--- At most 1,613 bytes of the program's input matter: 12 of the header, 25 for each of 64 records, and one byte more.
+-- At most inputLimit bytes of the program's input matter: those of the header, of the longest sheet, and one byte more.
 use mathlib.Core.Path.{_≡_, refl, sym, ap, _∙_, fun-ext}
 use mathlib.Core.List.{List, [], _∷_}
-use mathlib.Core.Bool.{Bool, true, false, cond, _&&_}
+use mathlib.Core.Bool.{Bool, cond, _&&_}
 use Prim.Native.Nat.{ℕ, zero, suc, _+_, _*_, _-_, _≤_, _<_}
 use native.Mathlib.Nat.{suc-sub-suc, sub-zero, zero-sub}
 use native.Mathlib.Omega.{arith}
 use lib.IntN.{ℤ}
 use lib.ListN.{length, getD, take, drop, length-take}
 use lib.Seq.{take-take, take-nil, getD-take}
-use lib.Dec.{T, leb, ltb, leb→le, le→leb, ltb→lt, lt→ltb}
-use Rattle.meaning.specs.Limits.{recordLimit, constantHalf, budgetLimit, headerLength, inputLimit}
+use lib.Dec.{leb, ltb, leb→le, le→leb, ltb→lt, lt→ltb}
+use Rattle.meaning.specs.Limits.{recordLimit, bodyLimit, recordLengthLimit, constantHalf, budgetLimit, headerLength, inputLimit}
 use Rattle.meaning.specs.Number.{unsigned, decodeSigned, unsigned16, signed16}
 use Rattle.meaning.specs.Record.{Kind, kindOf, bodyLength, Record, kind, recordLength, decodeRecord, Open}
 use Rattle.meaning.specs.Reader.{Result, ok, require, orRefuse, andThen, Accepted, accept, readRecord, readFrom, read}
@@ -18,6 +18,7 @@ use Rattle.meaning.specs.Report.{firstOverCeiling}
 use Rattle.meaning.specs.Answer.{sheetReports, checkCeilings, accepted, figuresOf, checkVisits, answer}
 use Rattle.meaning.specs.Program.{refusedLine, answerText, inputParameters, inputBudget, inputSheet, reportsOf, programText}
 use Rattle.meaning.proofs.RecordBytes.{bodyLength-bound}
+use Rattle.meaning.proofs.Logic.{same-truth}
 
 -- ---- a part of a list that is longer than what is looked at
 
@@ -27,37 +28,32 @@ drop-take (suc m) zero xs = ap (λ (k : ℕ). take k (drop (suc m) xs)) (sym (ze
 drop-take (suc m) (suc n) [] = sym (take-nil (suc n - suc m))
 drop-take (suc m) (suc n) (x ∷ xs) = drop-take m n xs ∙ ap (λ (k : ℕ). take k (drop m xs)) (sym (suc-sub-suc n m))
 
-same-test : (a b : Bool) → (T a → T b) → (T b → T a) → a ≡ b
-same-test true true f g = refl
-same-test true false f g = absurd (f tt)
-same-test false true f g = absurd (g tt)
-same-test false false f g = refl
-
 -- a list is at least m long where its first n ≥ m elements are
 leb-take : (m n : ℕ) (xs : List ℕ) → m ≤ n → leb m (length xs) ≡ leb m (length (take n xs))
 leb-take m n xs h =
-    same-test (leb m (length xs)) (leb m (length (take n xs)))
+    same-truth (leb m (length xs)) (leb m (length (take n xs)))
     (λ t. le→leb m (length (take n xs)) (omega (arith, leb→le m (length xs) t, length-take n xs)))
     (λ t. le→leb m (length xs) (omega (arith, leb→le m (length (take n xs)) t, length-take n xs)))
 
 -- ---- the reader
 
--- the bytes of a sheet that matter: 64 records of at most 25 bytes, and one byte
+-- the bytes of a sheet that matter: the longest records, as many as there may be, and one byte
 abbrev pub sheetLimit : ℕ
 sheetLimit = inputLimit - headerLength
 
-module _ (n : ℕ) (bytes : List ℕ) (long : 24 ≤ n) where
+module _ (n : ℕ) (bytes : List ℕ) (long : bodyLimit ≤ n) where
   readRecord-take : (at : ℕ) (os : List Open) (k : ℕ) → readRecord at os k bytes ≡ readRecord at os k (take n bytes)
   unfolding readRecord
   readRecord-take at os k = ap (andThen (orRefuse (kindOf k) 2 at)) (fun-ext (λ c. same c (bodyLength-bound c)))
     where
-      same : (c : Kind) → bodyLength c ≤ 24 → require (leb (bodyLength c) (length bytes)) 1 at (accept at os (decodeRecord c (take (bodyLength c) bytes)))
+      same : (c : Kind) → bodyLength c ≤ bodyLimit → require (leb (bodyLength c) (length bytes)) 1 at (accept at os (decodeRecord c (take (bodyLength c) bytes)))
           ≡ require (leb (bodyLength c) (length (take n bytes))) 1 at (accept at os (decodeRecord c (take (bodyLength c) (take n bytes))))
       same c h =
           ap (λ (b : Bool). require b 1 at (accept at os (decodeRecord c (take (bodyLength c) bytes)))) (leb-take (bodyLength c) n bytes (omega arith))
-          ∙ ap (λ (b : List ℕ). require (leb (bodyLength c) (length (take n bytes))) 1 at (accept at os (decodeRecord c b))) (sym (take-take (bodyLength c) n bytes (omega arith)))
+          ∙ ap (λ (b : List ℕ). require (leb (bodyLength c) (length (take n bytes))) 1 at (accept at os (decodeRecord c b)))
+          (sym (take-take (bodyLength c) n bytes (omega arith)))
 
-readFrom-take : (left n at : ℕ) (os : List Open) (bytes : List ℕ) → 25 * left < n → readFrom left at os bytes ≡ readFrom left at os (take n bytes)
+readFrom-take : (left n at : ℕ) (os : List Open) (bytes : List ℕ) → recordLengthLimit * left < n → readFrom left at os bytes ≡ readFrom left at os (take n bytes)
 unfolding readFrom
 readFrom-take zero zero at os bytes h = absurd (omega arith)
 readFrom-take zero (suc n) at os [] h = refl
@@ -75,7 +71,7 @@ readFrom-take (suc left) (suc n) at os (k ∷ bytes) h =
     rest : Accepted → List ℕ → Result (List Record)
     rest a following = readFrom left (at + recordLength (a .accepted)) (a .after) (drop (bodyLength (kind (a .accepted))) following)
 
--- the first byte after the 64th record is the last that the reader looks at
+-- the first byte after the last record that a sheet may have is the last that the reader looks at
 pub read-take : (sheet : List ℕ) → read sheet ≡ read (take sheetLimit sheet)
 unfolding read
 read-take sheet = readFrom-take recordLimit sheetLimit 0 [] sheet (omega arith)
@@ -93,7 +89,7 @@ answer-take sheet parameters budget =
 module _ (input : List ℕ) where
   header-take : ltb (length input) headerLength ≡ ltb (length (take inputLimit input)) headerLength
   header-take =
-      same-test (ltb (length input) headerLength) (ltb (length (take inputLimit input)) headerLength)
+      same-truth (ltb (length input) headerLength) (ltb (length (take inputLimit input)) headerLength)
       (λ t. lt→ltb (length (take inputLimit input)) headerLength (omega (arith, ltb→lt (length input) headerLength t, length-take inputLimit input)))
       (λ t. lt→ltb (length input) headerLength (omega (arith, ltb→lt (length (take inputLimit input)) headerLength t, length-take inputLimit input)))
 
@@ -106,7 +102,8 @@ module _ (input : List ℕ) where
 
   parameters-take : inputParameters input ≡ inputParameters (take inputLimit input)
   unfolding inputParameters
-  parameters-take = λ t. parameter-take 0 (omega arith) t ∷ parameter-take 2 (omega arith) t ∷ parameter-take 4 (omega arith) t ∷ parameter-take 6 (omega arith) t ∷ []
+  parameters-take =
+      λ t. parameter-take 0 (omega arith) t ∷ parameter-take 2 (omega arith) t ∷ parameter-take 4 (omega arith) t ∷ parameter-take 6 (omega arith) t ∷ []
 
   budget-take : inputBudget input ≡ inputBudget (take inputLimit input)
   unfolding inputBudget
@@ -116,7 +113,7 @@ module _ (input : List ℕ) where
   unfolding inputSheet
   sheet-take = sym (drop-take headerLength inputLimit input)
 
-  -- what the program prints depends on the first 1,613 bytes alone
+  -- what the program prints depends on the first inputLimit bytes alone
   pub programText-take : programText input ≡ programText (take inputLimit input)
   unfolding programText
   programText-take =

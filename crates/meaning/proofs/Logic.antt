@@ -1,10 +1,11 @@
 -- Facts about tests, results and bounds that the other proofs use.
 use mathlib.Core.Path.{_≡_, refl, sym, ap, subst}
-use mathlib.Core.Bool.{Bool, true, false, _&&_}
+use mathlib.Core.Bool.{Bool, true, false, cond, _&&_}
 use mathlib.Core.Option.{Option, none, some}
-use Prim.Native.Nat.{ℕ, _≤_, _<_}
+use mathlib.Core.List.{List, [], _∷_}
+use Prim.Native.Nat.{ℕ}
 use native.Mathlib.Omega.{arith}
-use lib.Dec.{T, leb, ltb, leb→le, le→leb, ltb→lt, lt→ltb}
+use lib.Dec.{T}
 use Rattle.meaning.specs.Reader.{Result, ok, refused, require, orRefuse, andThen}
 use Rattle.meaning.specs.Time.{Bounds, bounds}
 
@@ -23,25 +24,12 @@ T→true false t = absurd t
 pub true→T : (b : Bool) → b ≡ true → T b
 true→T b e = subst T (sym e) tt
 
-pub ltb-yes : (m n : ℕ) → m < n → ltb m n ≡ true
-ltb-yes m n h = T→true (ltb m n) (lt→ltb m n h)
-
-pub ltb-no : (m n : ℕ) → n ≤ m → ltb m n ≡ false
-ltb-no m n h = go (ltb m n) refl
-  where
-    go : (b : Bool) → ltb m n ≡ b → b ≡ false
-    go true e = absurd (let k = ltb→lt m n (subst T (sym e) tt) in omega arith)
-    go false e = refl
-
-pub leb-yes : (m n : ℕ) → m ≤ n → leb m n ≡ true
-leb-yes m n h = T→true (leb m n) (le→leb m n h)
-
-pub leb-no : (m n : ℕ) → n < m → leb m n ≡ false
-leb-no m n h = go (leb m n) refl
-  where
-    go : (b : Bool) → leb m n ≡ b → b ≡ false
-    go true e = absurd (let k = leb→le m n (true→T (leb m n) e) in omega arith)
-    go false e = refl
+-- tests that follow from one another have one answer
+pub same-truth : (a b : Bool) → (T a → T b) → (T b → T a) → a ≡ b
+same-truth true true p q = refl
+same-truth true false p q = absurd (p tt)
+same-truth false true p q = absurd (q tt)
+same-truth false false p q = refl
 
 -- two different constructors
 pub refused-is-not-ok : {A : Type 0} {X : Type 0} {number place : ℕ} {a : A} → refused number place ≡ ok a → X
@@ -49,6 +37,17 @@ refused-is-not-ok e = absurd (let z : _≡_ {A = ℕ} 0 1 = cc in omega arith)
 
 pub none-is-not-some : {A : Type 0} {X : Type 0} {a : A} → none ≡ some a → X
 none-is-not-some e = absurd (let z : _≡_ {A = ℕ} 0 1 = cc in omega arith)
+
+pub nil-is-not-cons : {A : Type 0} {X : Type 0} {x : A} {xs : List A} → [] ≡ x ∷ xs → X
+nil-is-not-cons e = absurd (let z : _≡_ {A = ℕ} 0 1 = cc in omega arith)
+
+pub true-is-not-false : {X : Type 0} → true ≡ false → X
+true-is-not-false e = absurd (let z : _≡_ {A = ℕ} 0 1 = cc in omega arith)
+
+-- what a test lets through
+pub test-passed : {A : Type 0} (c : Bool) (a b : A) → cond c (some a) none ≡ some b → T c × (a ≡ b)
+test-passed true a b e = (tt, cc)
+test-passed false a b e = none-is-not-some e
 
 pub ok-injective : {A : Type 0} {a b : A} → ok a ≡ ok b → a ≡ b
 ok-injective e = cc

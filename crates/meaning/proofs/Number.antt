@@ -1,16 +1,15 @@
 -- Numbers in bytes: writing and reading undo each other.
-use mathlib.Core.Path.{_≡_, refl, sym, ap, _∙_, subst}
-use mathlib.Core.List.{List, [], _∷_, _++_}
-use mathlib.Core.Bool.{Bool, true, false, not, cond}
+use mathlib.Core.Path.{_≡_, refl, ap, _∙_}
+use mathlib.Core.List.{List, [], _∷_}
+use mathlib.Core.Bool.{Bool, true, false, cond}
 use Prim.Native.Nat.{ℕ, zero, suc, _+_, _*_, _-_, _/_, _%_, _^_, _<_}
 use native.Mathlib.Nat.{pow-suc}
 use native.Mathlib.Omega.{arith}
 use lib.IntN.{ℤ, pos, negsuc}
-use lib.Signed.{mag}
 use lib.ListN.{length, getD, take, drop}
-use lib.Dec.{T, ltb, ltb→lt, lt→ltb, nltb→le}
+use lib.Dec.{T, ltb, ltb→lt}
+use borrow.Author.Tests.{lt-ltb, le-ltb}
 use Rattle.meaning.specs.Number.{unsigned, littleEndian, decodeSigned, encodeSigned, hasPattern}
-use Rattle.meaning.proofs.Logic.{true→T, ltb-yes, ltb-no}
 
 -- ---- bytes
 
@@ -37,22 +36,12 @@ bytes-drop zero bs h = h
 bytes-drop (suc n) [] h = tt
 bytes-drop (suc n) (b ∷ bs) (p, h) = bytes-drop n bs h
 
-pub bytes-append : (bs cs : List ℕ) → Bytes bs → Bytes cs → Bytes (bs ++ cs)
-unfolding Bytes
-bytes-append [] cs h k = k
-bytes-append (b ∷ bs) cs (p, h) k = (p, bytes-append bs cs h k)
-
 -- ---- unsigned numbers
 
 pub length-littleEndian : (count n : ℕ) → length (littleEndian count n) ≡ count
 unfolding littleEndian
 length-littleEndian zero n = refl
 length-littleEndian (suc count) n = ap suc (length-littleEndian count (n / 256))
-
-pub bytes-littleEndian : (count n : ℕ) → Bytes (littleEndian count n)
-unfolding littleEndian Bytes
-bytes-littleEndian zero n = tt
-bytes-littleEndian (suc count) n = (omega arith, bytes-littleEndian count (n / 256))
 
 pub unsigned-littleEndian : (count n : ℕ) → n < 256 ^ count → unsigned (littleEndian count n) ≡ n
 unfolding unsigned littleEndian
@@ -77,11 +66,12 @@ unsigned-bound (b ∷ bs) (p, h) = let i = unsigned-bound bs h in omega (arith, 
 
 pub decode-encode : (half : ℕ) (z : ℤ) → T (hasPattern half z) → decodeSigned half (encodeSigned half z) ≡ z
 unfolding decodeSigned encodeSigned hasPattern
-decode-encode half (pos n) t = ap (λ (c : Bool). cond c (pos n) (negsuc (half + half - suc n))) (ltb-yes n half (ltb→lt n half t))
+decode-encode half (pos n) t = ap (λ (c : Bool). cond c (pos n) (negsuc (half + half - suc n))) (lt-ltb n half (ltb→lt n half t))
 decode-encode half (negsuc n) t =
     let h = ltb→lt n half t in
     let e : half + half - suc (half + half - suc n) ≡ n = omega arith in
-    ap (λ (c : Bool). cond c (pos (half + half - suc n)) (negsuc (half + half - suc (half + half - suc n)))) (ltb-no (half + half - suc n) half (omega arith)) ∙ ap negsuc e
+    ap (λ (c : Bool). cond c (pos (half + half - suc n)) (negsuc (half + half - suc (half + half - suc n))))
+    (le-ltb (half + half - suc n) half (omega arith)) ∙ ap negsuc e
 
 pub encode-decode : (half n : ℕ) → n < half + half → encodeSigned half (decodeSigned half n) ≡ n
 unfolding encodeSigned decodeSigned
@@ -96,11 +86,3 @@ pub encode-bound : (half : ℕ) (z : ℤ) → T (hasPattern half z) → encodeSi
 unfolding encodeSigned hasPattern
 encode-bound half (pos n) t = omega (arith, ltb→lt n half t)
 encode-bound half (negsuc n) t = omega (arith, ltb→lt n half t)
-
-pub decode-hasPattern : (half n : ℕ) → n < half + half → T (hasPattern half (decodeSigned half n))
-unfolding hasPattern decodeSigned
-decode-hasPattern half n h = go (ltb n half) refl
-  where
-    go : (c : Bool) → ltb n half ≡ c → T (ltb (mag (cond c (pos n) (negsuc (half + half - suc n)))) half)
-    go true e = true→T (ltb n half) e
-    go false e = lt→ltb (half + half - suc n) half (let l = nltb→le n half (subst (λ (c : Bool). T (not c)) (sym e) tt) in omega arith)

@@ -8,13 +8,14 @@ use lib.IntN.{ℤ}
 use lib.ListN.{length}
 use Rattle.meaning.specs.Record.{Loop, Record, workRecord, loopRecord, endRecord, choiceRecord, nextArmRecord}
 use Rattle.meaning.specs.Time.{Bounds}
-use Rattle.meaning.specs.Stage.{Frame, loopFrame, choiceFrame, State, state, afterEnd, Step, going, beginsVisit, atEnd, stuck, stateOf, visitBegun, andOn, enterLoop, endTrip, passRecord, pass, passFrom, stage}
+use Rattle.meaning.specs.Stage.{Frame, loopFrame, choiceFrame, State, state, afterEnd, Step, going, beginsVisit, atEnd, stuck}
+use Rattle.meaning.specs.Stage.{stateOf, visitBegun, andOn, enterLoop, endTrip, passRecord, pass, passFrom, stage}
 
--- What one pass from a state comes to. Going on leaves fewer records to pass; beginning a visit adds 1 to the visits and nothing else does;
--- at the sheet's end, and where no record can be passed, nothing changes.
+-- What one pass from a state comes to. Going on leaves fewer records to pass; beginning a visit adds 1 to the visits, which nothing else does, and
+-- leaves a trip open; at the sheet's end, and where no record can be passed, nothing changes.
 unfoldable pub PassDoes : State → Step → Type 0
 PassDoes s (going t) = (t .visits ≡ s .visits) × (length (t .remaining) < length (s .remaining))
-PassDoes s (beginsVisit t) = t .visits ≡ suc (s .visits)
+PassDoes s (beginsVisit t) = (t .visits ≡ suc (s .visits)) × (1 ≤ length (t .frames))
 PassDoes s (atEnd t) = (t ≡ s) × (s .remaining ≡ [])
 PassDoes s (stuck t) = t ≡ s
 
@@ -33,13 +34,13 @@ module _ (ps : List ℤ) where
       PassDoes (state (loopRecord l ∷ rs) c fs v) (enterLoop ps n l rs c fs v)
   unfolding PassDoes enterLoop
   enterLoop-does zero l rs c fs v = (refl, omega (arith, afterEnd-shortens zero rs))
-  enterLoop-does (suc n) l rs c fs v = refl
+  enterLoop-does (suc n) l rs c fs v = (refl, omega arith)
 
   endTrip-does : (more : Bool) (sum : Bounds) (l : Loop) (body : List Record) (k : ℕ) (sums : List Bounds) (c enclosing : Bounds) (rs : List Record)
       (f : Frame) (fs : List Frame) (v : ℕ) →
       PassDoes (state (endRecord ∷ rs) c (f ∷ fs) v) (endTrip ps more sum l body k sums enclosing rs fs v)
   unfolding PassDoes endTrip
-  endTrip-does true sum l body k sums c enclosing rs f fs v = refl
+  endTrip-does true sum l body k sums c enclosing rs f fs v = (refl, omega arith)
   endTrip-does false sum l body k sums c enclosing rs f fs v = (refl, omega arith)
 
   passRecord-does : (rs : List Record) (c : Bounds) (fs : List Frame) (v : ℕ) → PassDoes (state rs c fs v) (passRecord ps rs c fs v)
@@ -58,16 +59,6 @@ module _ (ps : List ℤ) where
   pub pass-does : (s : State) → PassDoes s (pass ps s)
   unfolding pass
   pass-does s = passRecord-does (s .remaining) (s .current) (s .frames) (s .visits)
-
-  pub pass-visits : (s : State) → stateOf (pass ps s) .visits ≡ s .visits + visitBegun (pass ps s)
-  unfolding PassDoes stateOf visitBegun
-  pass-visits s = go (pass ps s) (pass-does s)
-    where
-      go : (p : Step) → PassDoes s p → stateOf p .visits ≡ s .visits + visitBegun p
-      go (going t) d = omega arith
-      go (beginsVisit t) d = omega arith
-      go (atEnd t) d = omega (arith, ap (λ (u : State). u .visits) (d .0))
-      go (stuck t) d = omega (arith, ap (λ (u : State). u .visits) d)
 
   -- How many passes are allowed makes no difference where they are more than the records left: each pass that goes on leaves fewer.
   passFrom-enough : (m n : ℕ) (s : State) → length (s .remaining) < m → length (s .remaining) < n → passFrom ps m s ≡ passFrom ps n s
@@ -104,14 +95,14 @@ module _ (ps : List ℤ) where
   -- the passes allowed are used up.
   unfoldable pub StageDoes : State → Step → Type 0
   StageDoes s (going t) = ⊥
-  StageDoes s (beginsVisit t) = t .visits ≡ suc (s .visits)
+  StageDoes s (beginsVisit t) = (t .visits ≡ suc (s .visits)) × (1 ≤ length (t .frames))
   StageDoes s (atEnd t) = (t .visits ≡ s .visits) × (t .remaining ≡ []) × (pass ps t ≡ atEnd t)
   StageDoes s (stuck t) = (t .visits ≡ s .visits) × (pass ps t ≡ stuck t)
 
   StageDoes-after : (s t : State) (p : Step) → t .visits ≡ s .visits → StageDoes t p → StageDoes s p
   unfolding StageDoes
   StageDoes-after s t (going u) e d = d
-  StageDoes-after s t (beginsVisit u) e d = omega arith
+  StageDoes-after s t (beginsVisit u) e d = (omega (arith, d .0), d .1)
   StageDoes-after s t (atEnd u) e d = (omega (arith, d .0), d .1, d .2)
   StageDoes-after s t (stuck u) e d = (omega (arith, d .0), d .1)
 
@@ -137,7 +128,7 @@ module _ (ps : List ℤ) where
     where
       go : (p : Step) → StageDoes s p → stateOf p .visits ≡ s .visits + visitBegun p
       go (going t) d = absurd d
-      go (beginsVisit t) d = omega arith
+      go (beginsVisit t) d = omega (arith, d .0)
       go (atEnd t) d = omega (arith, d .0)
       go (stuck t) d = omega (arith, d .0)
 

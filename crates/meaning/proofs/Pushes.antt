@@ -2,10 +2,9 @@
 use mathlib.Core.Path.{_≡_, refl, sym, ap, ap₂, _∙_}
 use mathlib.Core.List.{List, [], _∷_, _++_, map}
 use Prim.Native.Nat.{ℕ, zero, suc, _+_}
-use native.Mathlib.Nat.{one-mul}
 use native.Mathlib.Numerals.{add-one}
 use native.Mathlib.Omega.{arith}
-use lib.IntN.{ℤ, pos, _+ℤ_, _*ℤ_, +ℤ-assoc, +ℤ-idl, +ℤ-idr, *ℤ-zero, zero-*ℤ}
+use lib.IntN.{ℤ, pos, _+ℤ_, _*ℤ_, +ℤ-assoc, +ℤ-idl, +ℤ-idr, *ℤ-zero, zero-*ℤ, *ℤ-comm}
 use lib.Dec.{T}
 use lib.ListN.{length, replicate, length-append, length-replicate, replicate-append-replicate, length-map}
 use Rattle.whole.specs.Integer.{divides}
@@ -17,7 +16,7 @@ use Rattle.whole.proofs.Floor.{divides-quotient}
 use Rattle.whole.proofs.Degree.{firstOf-⊞, restOf-⊞}
 use Rattle.meaning.specs.Form.{Form, value}
 use Rattle.meaning.specs.Record.{Loop}
-use Rattle.meaning.specs.Time.{difference, indexAt, innerIndexes}
+use Rattle.meaning.specs.Time.{difference, signedStride, strideSize, indexAt, innerIndexes}
 use Rattle.meaning.specs.Closed.{push, pushOwn, pushInner, strideDivides}
 use Rattle.meaning.proofs.Logic.{T-and}
 
@@ -39,16 +38,20 @@ push-times f q moves = dot-times q (f .index) moves
 
 -- where the indexes around loop l move by `moves` and its counter by `steps`: its own index moves by its lower form and by its strides
 unfoldable pub moveInside : Loop → List ℤ → ℤ → List ℤ
-moveInside l moves steps = moves ++ ((push (l .lower) moves +ℤ steps *ℤ pos (l .stride)) ∷ [])
+moveInside l moves steps = moves ++ ((push (l .lower) moves +ℤ steps *ℤ signedStride l) ∷ [])
 
 -- the two definitions of pushes are such moves: one step of its own counter, or none
 pushOwn-move : (l : Loop) (depth : ℕ) → pushOwn l depth ≡ moveInside l (replicate depth (pos zero)) (pos 1)
 unfolding moveInside pushOwn
-pushOwn-move l depth = simp (push-zeros, +ℤ-idl, one-mul)
+pushOwn-move l depth =
+    ap (λ (z : ℤ). replicate depth (pos zero) ++ (z ∷ [])) (sym (ap (λ (z : ℤ). z +ℤ pos 1 *ℤ signedStride l) (push-zeros (l .lower) depth)
+    ∙ +ℤ-idl (pos 1 *ℤ signedStride l) ∙ *ℤ-comm (pos 1) (signedStride l) ∙ times-one (signedStride l)))
 
 pushInner-move : (l : Loop) (moves : List ℤ) → pushInner l moves ≡ moveInside l moves (pos zero)
 unfolding moveInside pushInner
-pushInner-move l moves = simp (zero-*ℤ, +ℤ-idr)
+pushInner-move l moves =
+    ap (λ (z : ℤ). moves ++ (z ∷ []))
+    (sym (ap (λ (z : ℤ). push (l .lower) moves +ℤ z) (zero-*ℤ (signedStride l)) ∙ +ℤ-idr (push (l .lower) moves)))
 
 -- such moves add up and multiply
 moveInside-zeros : (l : Loop) (depth : ℕ) → moveInside l (replicate depth (pos zero)) (pos zero) ≡ replicate (suc depth) (pos zero)
@@ -69,16 +72,20 @@ length-append-one xs x n e = let k = length-append xs (x ∷ []) in omega arith
 
 length-pushOwn : (l : Loop) (depth : ℕ) → length (pushOwn l depth) ≡ suc depth
 unfolding pushOwn
-length-pushOwn l depth = length-append-one (replicate depth (pos zero)) (pos (l .stride)) depth (length-replicate depth (pos zero))
+length-pushOwn l depth = length-append-one (replicate depth (pos zero)) (signedStride l) depth (length-replicate depth (pos zero))
 
 length-pushInner : (l : Loop) (moves : List ℤ) (depth : ℕ) → length moves ≡ depth → length (pushInner l moves) ≡ suc depth
 unfolding pushInner
 length-pushInner l moves depth e = length-append-one moves (push (l .lower) moves) depth e
 
 -- the pushes of a loop on the indexes of a nest inside it, from those on the indexes up to its own, as `closable` takes them along
-unfoldable pub nestPushes : List (Loop × ℕ) → List ℤ → List ℤ
+unfoldable pub nestPushes : List Loop → List ℤ → List ℤ
 nestPushes [] pushes = pushes
-nestPushes ((l, trip) ∷ inner) pushes = nestPushes inner (pushInner l pushes)
+nestPushes (l ∷ inner) pushes = nestPushes inner (pushInner l pushes)
+
+-- the loops of a nest whose counters are given
+abbrev pub loopsOf : List (Loop × ℕ) → List Loop
+loopsOf nest = map (λ p. p .0) nest
 
 module _ (ps : List ℤ) where
   -- ---- the indexes inside a loop, moved
@@ -90,7 +97,7 @@ module _ (ps : List ℤ) where
 
   -- the indexes inside loop l, its counter any integer
   unfoldable pub indexesInside : Loop → List ℤ → ℤ → List ℤ
-  indexesInside l indexes counter = indexes ++ ((value ps (l .lower) indexes +ℤ counter *ℤ pos (l .stride)) ∷ [])
+  indexesInside l indexes counter = indexes ++ ((value ps (l .lower) indexes +ℤ counter *ℤ signedStride l) ∷ [])
 
   -- those of a trip
   pub indexesInside-trip : (l : Loop) (indexes : List ℤ) (trip : ℕ) → innerIndexes ps l indexes trip ≡ indexesInside l indexes (pos trip)
@@ -99,7 +106,7 @@ module _ (ps : List ℤ) where
 
   length-indexesInside : (l : Loop) (indexes : List ℤ) (counter : ℤ) (depth : ℕ) → length indexes ≡ depth → length (indexesInside l indexes counter) ≡ suc depth
   unfolding indexesInside
-  length-indexesInside l indexes counter depth e = length-append-one indexes (value ps (l .lower) indexes +ℤ counter *ℤ pos (l .stride)) depth e
+  length-indexesInside l indexes counter depth e = length-append-one indexes (value ps (l .lower) indexes +ℤ counter *ℤ signedStride l) depth e
 
   -- they follow the indexes around the loop and its counter
   pub indexesInside-moved : (l : Loop) (indexes moves : List ℤ) (counter steps : ℤ) → length indexes ≡ length moves →
@@ -150,7 +157,7 @@ module _ (ps : List ℤ) where
       omega arith
 
   nest-moved : (inner : List (Loop × ℕ)) (indexes moves : List ℤ) → length indexes ≡ length moves →
-      nestIndexes inner (indexes ⊞ moves) ≡ nestIndexes inner indexes ⊞ nestPushes inner moves
+      nestIndexes inner (indexes ⊞ moves) ≡ nestIndexes inner indexes ⊞ nestPushes (loopsOf inner) moves
   unfolding nestIndexes nestPushes
   nest-moved [] indexes moves e = refl
   nest-moved ((l, trip) ∷ inner) indexes moves e =
@@ -159,7 +166,7 @@ module _ (ps : List ℤ) where
 
   -- document 01: the push of loop m on the indexes is what m's next trip adds to them, counters of all other loops held
   pub push-on-indexes : (outer : List (Loop × ℕ)) (m : Loop) (trip : ℕ) (inner : List (Loop × ℕ)) →
-      nestIndexes (outer ++ ((m, suc trip) ∷ inner)) [] ≡ nestIndexes (outer ++ ((m, trip) ∷ inner)) [] ⊞ nestPushes inner (pushOwn m (length outer))
+      nestIndexes (outer ++ ((m, suc trip) ∷ inner)) [] ≡ nestIndexes (outer ++ ((m, trip) ∷ inner)) [] ⊞ nestPushes (loopsOf inner) (pushOwn m (length outer))
   unfolding nestIndexes
   push-on-indexes outer m trip inner =
       let depth : ℕ = length outer in
@@ -170,15 +177,15 @@ module _ (ps : List ℤ) where
       nest-append outer ((m, suc trip) ∷ inner) []
       ∙ ap (nestIndexes inner) (own-moved m around trip depth e)
       ∙ nest-moved inner indexes (pushOwn m depth) sizes
-      ∙ ap (λ (xs : List ℤ). xs ⊞ nestPushes inner (pushOwn m depth)) (sym (nest-append outer ((m, trip) ∷ inner) []))
+      ∙ ap (λ (xs : List ℤ). xs ⊞ nestPushes (loopsOf inner) (pushOwn m depth)) (sym (nest-append outer ((m, trip) ∷ inner) []))
 
   -- the same for any form over them, such as a deeper loop's D
   pub push-is-next-trip : (outer : List (Loop × ℕ)) (m : Loop) (trip : ℕ) (inner : List (Loop × ℕ)) (f : Form) →
       value ps f (nestIndexes (outer ++ ((m, suc trip) ∷ inner)) [])
-      ≡ value ps f (nestIndexes (outer ++ ((m, trip) ∷ inner)) []) +ℤ push f (nestPushes inner (pushOwn m (length outer)))
+      ≡ value ps f (nestIndexes (outer ++ ((m, trip) ∷ inner)) []) +ℤ push f (nestPushes (loopsOf inner) (pushOwn m (length outer)))
   push-is-next-trip outer m trip inner f =
       let before : List ℤ = nestIndexes (outer ++ ((m, trip) ∷ inner)) [] in
-      ap (value ps f) (push-on-indexes outer m trip inner) ∙ value-moved f before (nestPushes inner (pushOwn m (length outer)))
+      ap (value ps f) (push-on-indexes outer m trip inner) ∙ value-moved f before (nestPushes (loopsOf inner) (pushOwn m (length outer)))
 
 -- ---- moves of several counters at once
 
@@ -235,14 +242,17 @@ moveBy-loop l depth pushes steps sizes =
 
 -- what divides the push of each loop divides what all of them add
 pub strideDivides-moves : (l : Loop) (depth : ℕ) (pushes : List (List ℤ)) → T (strideDivides l pushes) → (steps : List ℤ) →
-    (q : ℤ) × (push (difference l) (moveBy depth pushes steps) ≡ q *ℤ pos (l .stride))
+    (q : ℤ) × (push (difference l) (moveBy depth pushes steps) ≡ q *ℤ pos (strideSize l))
 unfolding strideDivides moveBy
-strideDivides-moves l depth [] t steps = (pos zero, push-zeros (difference l) depth ∙ sym (zero-*ℤ (pos (l .stride))))
+strideDivides-moves l depth [] t steps = (pos zero, push-zeros (difference l) depth ∙ sym (zero-*ℤ (pos (strideSize l))))
 strideDivides-moves l depth (p ∷ pushes) t steps =
-    let tests = T-and (divides (l .stride) (push (difference l) p)) (strideDivides l pushes) t in
-    let first = divides-quotient (l .stride) (push (difference l) p) (tests .0) in
-    let others = strideDivides-moves l depth pushes (tests .1) (restOf steps) in
-    (others .0 +ℤ firstOf steps *ℤ first .0, simp (push-⊞, push-times) (add-multiples (firstOf steps) (others .0) (first .0) (pos (l .stride)) (others .1) (first .1)))
+    let tests = T-and (divides (strideSize l) (push (difference l) p)) (strideDivides l pushes) t in
+    let first = divides-quotient (strideSize l) (push (difference l) p) (tests .0) in
+    let others = strideDivides-moves l depth pushes (tests .1) (restOf steps) in (
+      others .0 +ℤ firstOf steps *ℤ first .0,
+      simp (push-⊞, push-times)
+          (add-multiples (firstOf steps) (others .0) (first .0) (pos (strideSize l)) (others .1) (first .1)),
+    )
   where
     add-multiples : {x y : ℤ} (k q r s : ℤ) → x ≡ q *ℤ s → y ≡ r *ℤ s → x +ℤ k *ℤ y ≡ (q +ℤ k *ℤ r) *ℤ s
     add-multiples k q r s e f = simp (e, f, +ℤ-*ℤ, *ℤ-assoc)
@@ -279,7 +289,8 @@ module _ (ps : List ℤ) where
   }
 
   -- so every form's value is affine in the counters
-  pub value-follows : (indexesAt : List ℤ → List ℤ) (pushes : List (List ℤ)) (depth : ℕ) → Follows indexesAt pushes depth → (f : Form) (counters steps : List ℤ) →
+  pub value-follows : (indexesAt : List ℤ → List ℤ) (pushes : List (List ℤ)) (depth : ℕ) → Follows indexesAt pushes depth →
+      (f : Form) (counters steps : List ℤ) →
       value ps f (indexesAt (counters ⊞ steps)) ≡ value ps f (indexesAt counters) +ℤ push f (moveBy depth pushes steps)
   value-follows indexesAt pushes depth follows f counters steps =
       ap (value ps f) (follows .moved counters steps) ∙ value-moved ps f (indexesAt counters) (moveBy depth pushes steps)

@@ -1,20 +1,21 @@
 -- Values lie in their ranges: those of forms, which reach both ends, and the indexes of every trip; the trips are at most the ceiling.
-use mathlib.Core.Path.{_≡_, refl, sym, ap, ap₂, _∙_, subst}
+use mathlib.Core.Path.{_≡_, refl, sym, ap, ap₂, _∙_}
 use mathlib.Core.List.{List, [], _∷_, _++_}
 use mathlib.Core.Bool.{Bool, true, false}
 use mathlib.Core.Logic.{_↔_}
 use Prim.Native.Nat.{ℕ, zero, suc, _*_, _≤_, _<_}
-use lib.IntN.{ℤ, pos, negsuc, negℤ, _+ℤ_, _-ℤ_, _*ℤ_, negℤ-+ℤ}
+use lib.IntN.{ℤ, pos, negsuc, _+ℤ_, _-ℤ_, _*ℤ_, negℤ-+ℤ}
 use lib.Signed.{_≤ℤ_, ≤ℤ-refl}
 use lib.ListN.{length}
 use Rattle.whole.specs.Integer.{dot, larger}
 use Rattle.whole.proofs.Ring.{sort-sums}
-use Rattle.whole.proofs.Order.{AtMost, AtMost-refl, AtMost-trans, AtMost-add, AtMost-neg, AtMost-scale-pos, AtMost-scale-negsuc, larger-left, larger-right, ≤ℤ→AtMost, AtMost→≤ℤ, AtMost-subtract, AtMost-restore}
+use Rattle.whole.proofs.Order.{AtMost, AtMost-refl, AtMost-trans, AtMost-add, AtMost-scale-pos, AtMost-scale-negsuc}
+use Rattle.whole.proofs.Order.{larger-left, larger-right, ≤ℤ→AtMost, AtMost→≤ℤ, AtMost-subtract, AtMost-restore}
 use Rattle.whole.proofs.Floor.{counted-at-most, at-most-counted, count-monotone}
 use Rattle.whole.proofs.Dot.{dot-subtract}
 use Rattle.meaning.specs.Form.{Form, value, subtract}
 use Rattle.meaning.specs.Record.{Loop}
-use Rattle.meaning.specs.Time.{difference, tripCount, trips, indexAt, innerIndexes}
+use Rattle.meaning.specs.Time.{difference, signedStride, strideSize, tripCount, trips, indexAt, innerIndexes}
 use Rattle.meaning.specs.Range.{Range, exactRange, scale, addRange, dotRange, range, indexRange, innerRanges, differenceRange, ceiling}
 use Rattle.meaning.proofs.Trips.{Inside}
 
@@ -36,16 +37,6 @@ add-within : (x y : ℤ) (r s : Range) → Within x r → Within y s → Within 
 unfolding addRange
 add-within x y r s v w = record { low = AtMost-add (r .lo) x (s .lo) y (v .low) (w .low); high = AtMost-add x (r .hi) y (s .hi) (v .high) (w .high) }
 
--- where the differences of the numbers of two ranges lie
-abbrev pub subtractRange : Range → Range → Range
-subtractRange r s = record { lo = r .lo -ℤ s .hi; hi = r .hi -ℤ s .lo }
-
-subtract-within : (x y : ℤ) (r s : Range) → Within x r → Within y s → Within (x -ℤ y) (subtractRange r s)
-subtract-within x y r s v w = record {
-  low = AtMost-add (r .lo) x (negℤ (s .hi)) (negℤ y) (v .low) (AtMost-neg y (s .hi) (w .high));
-  high = AtMost-add x (r .hi) (negℤ y) (negℤ (s .lo)) (v .high) (AtMost-neg (s .lo) y (w .low));
-}
-
 dot-within : (factors : List ℤ) (ranges : List Range) (indexes : List ℤ) → Inside indexes ranges → Within (dot factors indexes) (dotRange factors ranges)
 unfolding dotRange Inside
 dot-within [] ranges indexes inside = exact-within (pos zero)
@@ -56,7 +47,8 @@ dot-within (x ∷ xs) (r ∷ ranges) (i ∷ indexes) (above, below, inside) =
     let first = scale-within x i r (record { low = ≤ℤ→AtMost above; high = ≤ℤ→AtMost below }) in
     add-within (x *ℤ i) (dot xs indexes) (scale x r) (dotRange xs ranges) first (dot-within xs ranges indexes inside)
 
-inside-append-one : (indexes : List ℤ) (ranges : List Range) (x : ℤ) (r : Range) → Inside indexes ranges → Within x r → Inside (indexes ++ (x ∷ [])) (ranges ++ (r ∷ []))
+inside-append-one : (indexes : List ℤ) (ranges : List Range) (x : ℤ) (r : Range) → Inside indexes ranges → Within x r →
+    Inside (indexes ++ (x ∷ [])) (ranges ++ (r ∷ []))
 unfolding Inside
 inside-append-one [] [] x r inside w = (AtMost→≤ℤ (w .low), AtMost→≤ℤ (w .high), tt)
 inside-append-one [] (s ∷ ranges) x r inside w = absurd inside
@@ -151,7 +143,8 @@ module _ (ps : List ℤ) where
   unfolding value range
   value-inside f ranges indexes inside =
       let fixed : ℤ = f .constant +ℤ dot (f .parameter) ps in
-      add-within fixed (dot (f .index) indexes) (exactRange fixed) (dotRange (f .index) ranges) (exact-within fixed) (dot-within (f .index) ranges indexes inside)
+      add-within fixed (dot (f .index) indexes) (exactRange fixed) (dotRange (f .index) ranges) (exact-within fixed)
+      (dot-within (f .index) ranges indexes inside)
 
   -- and is each end of it at some of them: a form's range has its smallest and its largest value
   pub value-reaches : (large : Bool) (f : Form) (ranges : List Range) → NoneEmpty ranges →
@@ -162,52 +155,39 @@ module _ (ps : List ℤ) where
       let found = dot-reaches large (f .index) ranges proper in
       (found .0, found .1, ap₂ _+ℤ_ (sym (end-exact large fixed)) (found .2) ∙ sym (end-add large (exactRange fixed) (dotRange (f .index) ranges)))
 
-  -- D ranged as one form lies within the difference of the two forms' ranges
-  pub difference-within : (l : Loop) (ranges : List Range) → NoneEmpty ranges → (large : Bool) →
-      Within (endOf large (differenceRange ps l ranges)) (subtractRange (range ps (l .upper) ranges) (range ps (l .lower) ranges))
-  unfolding differenceRange
-  difference-within l ranges proper large =
-      let up : Range = range ps (l .upper) ranges in
-      let low : Range = range ps (l .lower) ranges in
-      let found = value-reaches large (difference l) ranges proper in
-      let indexes : List ℤ = found .0 in
-      let v = value-inside (l .upper) ranges indexes (found .1) in
-      let w = value-inside (l .lower) ranges indexes (found .1) in
-      let both = subtract-within (value ps (l .upper) indexes) (value ps (l .lower) indexes) up low v w in
-      subst (λ (z : ℤ). Within z (subtractRange up low)) (sym (value-difference l indexes) ∙ found .2) both
-
   -- ---- indexes and trips
 
   -- an index goes no further than the upper form's value
-  pub index-at-most-upper : (l : Loop) (indexes : List ℤ) (trip : ℕ) → trip < trips ps l indexes → AtMost (indexAt ps l indexes trip) (value ps (l .upper) indexes)
-  unfolding indexAt trips tripCount
+  pub index-at-most-upper : (l : Loop) (indexes : List ℤ) (trip : ℕ) → trip < trips ps l indexes →
+      AtMost (indexAt ps l indexes trip) (value ps (l .upper) indexes)
+  unfolding indexAt trips tripCount signedStride strideSize
   index-at-most-upper l indexes trip made =
-      let within = counted-at-most (value ps (difference l) indexes) (l .stride) trip made in
-      AtMost-restore (value ps (l .lower) indexes) (pos (trip * l .stride)) (value ps (l .upper) indexes) (rw (value-difference l indexes) at within)
+      let within = counted-at-most (value ps (difference l) indexes) (strideSize l) trip made in
+      AtMost-restore (value ps (l .lower) indexes) (pos (trip * strideSize l)) (value ps (l .upper) indexes) (rw (value-difference l indexes) at within)
 
   -- the rule in the loop's own terms: a trip is made exactly where its index is at most the upper form's value
-  pub trip-made-exactly : (l : Loop) (indexes : List ℤ) (trip : ℕ) → 1 ≤ l .stride →
+  pub trip-made-exactly : (l : Loop) (indexes : List ℤ) (trip : ℕ) → 1 ≤ strideSize l →
       (trip < trips ps l indexes) ↔ (indexAt ps l indexes trip ≤ℤ value ps (l .upper) indexes)
-  unfolding indexAt trips tripCount
+  unfolding indexAt trips tripCount signedStride strideSize
   trip-made-exactly l indexes trip moves = (λ made. AtMost→≤ℤ (index-at-most-upper l indexes trip made), λ h. made (≤ℤ→AtMost h))
     where
       made : AtMost (indexAt ps l indexes trip) (value ps (l .upper) indexes) → trip < trips ps l indexes
       made below =
-          let within = AtMost-subtract (value ps (l .lower) indexes) (pos (trip * l .stride)) (value ps (l .upper) indexes) below in
-          at-most-counted (value ps (difference l) indexes) (l .stride) trip moves (rw (value-difference l indexes) within)
+          let within = AtMost-subtract (value ps (l .lower) indexes) (pos (trip * strideSize l)) (value ps (l .upper) indexes) below in
+          at-most-counted (value ps (difference l) indexes) (strideSize l) trip moves (rw (value-difference l indexes) within)
 
   index-within : (l : Loop) (ranges : List Range) (indexes : List ℤ) (trip : ℕ) → Inside indexes ranges → trip < trips ps l indexes →
       Within (indexAt ps l indexes trip) (indexRange ps l ranges)
-  unfolding indexAt indexRange
+  unfolding indexAt indexRange signedStride strideSize
   index-within l ranges indexes trip inside made =
       let low : ℤ = value ps (l .lower) indexes in
       let up : ℤ = value ps (l .upper) indexes in
-      let index : ℤ = low +ℤ pos (trip * l .stride) in
+      let index : ℤ = low +ℤ pos (trip * strideSize l) in
       let lo : ℤ = range ps (l .lower) ranges .lo in
       let hi : ℤ = range ps (l .upper) ranges .hi in
       let under = AtMost-trans up hi (larger lo hi) (value-inside (l .upper) ranges indexes inside .high) (larger-right lo hi) in
       record {
-        low = AtMost-trans lo low index (value-inside (l .lower) ranges indexes inside .low) (record { gap = trip * l .stride; equation = refl });
+        low = AtMost-trans lo low index (value-inside (l .lower) ranges indexes inside .low) (record { gap = trip * strideSize l; equation = refl });
         high = AtMost-trans index up (larger lo hi) (index-at-most-upper l indexes trip made) under;
       }
 
@@ -229,4 +209,4 @@ module _ (ps : List ℤ) where
   unfolding trips ceiling differenceRange tripCount
   trips-ceiling l ranges indexes inside =
       let d = value-inside (difference l) ranges indexes inside in
-      count-monotone (value ps (difference l) indexes) (range ps (difference l) ranges .hi) (l .stride) (d .high)
+      count-monotone (value ps (difference l) indexes) (range ps (difference l) ranges .hi) (strideSize l) (d .high)

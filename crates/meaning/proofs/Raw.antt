@@ -10,7 +10,9 @@ use lib.Seq.{take-all}
 use lib.Dec.{T, leb, leb→le, le→leb}
 use Rattle.meaning.specs.Limits.{recordLimit}
 use Rattle.meaning.specs.Form.{Form, isZero, allZero}
-use Rattle.meaning.specs.Record.{Kind, workKind, loopKind, endKind, choiceKind, nextArmKind, kindNumber, kindOf, Loop, Record, workRecord, loopRecord, endRecord, choiceRecord, nextArmRecord, kind, recordLength, sheetBytes, Open, fieldsInRange, openAfter}
+use Rattle.meaning.specs.Record.{Kind, workKind, loopKind, endKind, choiceKind, nextArmKind, kindNumber, kindOf}
+use Rattle.meaning.specs.Record.{Loop, Record, workRecord, loopRecord, endRecord, choiceRecord, nextArmRecord, kind, recordLength, sheetBytes}
+use Rattle.meaning.specs.Record.{Open, fieldsInRange, openAfter}
 use Rattle.meaning.specs.Reader.{ok, orRefuse, Accepted, accept, endOfSheet, read}
 use Rattle.meaning.specs.Writer.{RawRecord, workFieldsZero, formZero, loopFieldsZero, foreignFieldsZero, recordOf, checkRecord, checkFrom, check}
 use Rattle.meaning.proofs.Logic.{andThen-ok, require-ok, andThen-yes, require-yes, orRefuse-yes}

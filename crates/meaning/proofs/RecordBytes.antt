@@ -1,22 +1,26 @@
 -- One record in bytes: a decoded body is written as it was, and a written body is decoded as it was.
 use mathlib.Core.Path.{_≡_, refl, sym, ap, _∙_, subst}
-use mathlib.Core.List.{List, [], _∷_, _++_, map, append-nil}
-use mathlib.Core.Bool.{Bool, true, false, cond, _&&_}
+use mathlib.Core.List.{List, [], _∷_, _++_, append-nil}
+use mathlib.Core.Bool.{Bool, true, false, cond}
 use mathlib.Core.Option.{Option, none, some}
-use Prim.Native.Nat.{ℕ, zero, suc, _+_, _≤_, _<_}
+use Prim.Native.Nat.{ℕ, zero, suc, _+_, _≤_, _<_, _^_}
 use native.Mathlib.Nat.{add-zero}
 use native.Mathlib.Omega.{arith}
 use lib.IntN.{ℤ, pos}
 use lib.ListN.{length, getD, drop, length-append, length-map}
 use lib.Seq.{getD-drop, drop-at}
 use lib.Dec.{T, eqb, eqb→eq}
-use Rattle.meaning.specs.Limits.{constantHalf, factorHalf, indexFactors, parameterFactors}
+use Rattle.whole.proofs.Elements.{table, elements}
+use Rattle.meaning.specs.Limits.{bodyLimit, recordLengthLimit, constantHalf, factorHalf, indexFactors, parameterFactors}
 use Rattle.meaning.specs.Number.{unsigned, littleEndian, decodeSigned, encodeSigned, hasPattern, unsigned16, signed16, signed8}
-use Rattle.meaning.specs.Form.{Form, formAt, formBytes, factorsFit, allZero, formInRange}
-use Rattle.meaning.specs.Record.{Kind, workKind, loopKind, endKind, choiceKind, nextArmKind, kindNumber, kindOf, bodyLength, Loop, Record, workRecord, loopRecord, endRecord, choiceRecord, nextArmRecord, kind, recordLength, decodeRecord, bodyBytes, Open, loopDepth, fieldsInRange}
-use Rattle.meaning.proofs.Logic.{T-and, and-T, T→true}
-use Rattle.meaning.proofs.Number.{Bytes, bytes-getD, bytes-append, length-littleEndian, bytes-littleEndian, unsigned-littleEndian, littleEndian-unsigned, unsigned-bound, decode-encode, encode-decode, encode-bound, decode-hasPattern}
-use Rattle.meaning.proofs.Accepted.{FormInRange, LoopInRange, loop-in-range, work-in-range}
+use Rattle.meaning.specs.Form.{Form, formAt, formBytes, factorsFit}
+use Rattle.meaning.specs.Record.{Kind, workKind, loopKind, endKind, choiceKind, nextArmKind, kindNumber, kindOf, bodyLength}
+use Rattle.meaning.specs.Record.{Loop, Record, workRecord, loopRecord, endRecord, choiceRecord, nextArmRecord, kind, recordLength}
+use Rattle.meaning.specs.Record.{decodeRecord, bodyBytes, Open, loopDepth, fieldsInRange}
+use Rattle.meaning.proofs.Logic.{T-and, none-is-not-some}
+use Rattle.meaning.proofs.Number.{Bytes, bytes-getD, length-littleEndian, unsigned-littleEndian, littleEndian-unsigned}
+use Rattle.meaning.proofs.Number.{unsigned-bound, decode-encode, encode-decode, encode-bound}
+use Rattle.meaning.proofs.Accepted.{FormInRange, loop-in-range, work-in-range}
 
 -- ---- kinds
 
@@ -41,17 +45,9 @@ pub kindNumber-kindOf : (n : ℕ) (k : Kind) → kindOf n ≡ some k → kindNum
 unfolding kindOf kindNumber
 kindNumber-kindOf n =
     kind-test n workKind _ (kind-test n loopKind _ (kind-test n endKind _ (kind-test n choiceKind _ (kind-test n nextArmKind none
-    (λ k e. absurd (let z : _≡_ {A = ℕ} 0 1 = cc in omega arith))))))
+    (λ k e. none-is-not-some e)))))
 
-pub kindNumber-byte : (k : Kind) → kindNumber k < 256
-unfolding kindNumber
-kindNumber-byte workKind = omega arith
-kindNumber-byte loopKind = omega arith
-kindNumber-byte endKind = omega arith
-kindNumber-byte choiceKind = omega arith
-kindNumber-byte nextArmKind = omega arith
-
-pub bodyLength-bound : (k : Kind) → bodyLength k ≤ 24
+pub bodyLength-bound : (k : Kind) → bodyLength k ≤ bodyLimit
 unfolding bodyLength
 bodyLength-bound workKind = omega arith
 bodyLength-bound loopKind = omega arith
@@ -59,22 +55,9 @@ bodyLength-bound endKind = omega arith
 bodyLength-bound choiceKind = omega arith
 bodyLength-bound nextArmKind = omega arith
 
-pub recordLength-bound : (r : Record) → recordLength r ≤ 25
+pub recordLength-bound : (r : Record) → recordLength r ≤ recordLengthLimit
 unfolding recordLength
 recordLength-bound r = omega (arith, bodyLength-bound (kind r))
-
--- ---- lists of a known length
-
--- f 0, .., f (n - 1)
-abbrev table : {A : Type 0} → ℕ → (ℕ → A) → List A
-table zero f = []
-table (suc n) f = f 0 ∷ table n (λ i. f (suc i))
-
-table-getD : {A : Type 0} (n : ℕ) (xs : List A) (d : A) → length xs ≡ n → table n (λ i. getD xs i d) ≡ xs
-table-getD zero [] d e = refl
-table-getD zero (x ∷ xs) d e = absurd (omega arith)
-table-getD (suc n) [] d e = absurd (omega arith)
-table-getD {A} (suc n) (x ∷ xs) d e = ap (λ (y : List A). x ∷ y) (table-getD n xs d (omega arith))
 
 -- ---- a decoded body is written as it was
 
@@ -110,12 +93,12 @@ module _ (body : List ℕ) (h : Bytes body) where
 
   pub bodyBytes-decodeRecord : (k : Kind) → length body ≡ bodyLength k → bodyBytes (decodeRecord k body) ≡ body
   unfolding bodyBytes decodeRecord bodyLength
-  bodyBytes-decodeRecord workKind e = (λ t. unsigned16-bytes 0 t ++ unsigned16-bytes 2 t) ∙ table-getD 4 body 0 e
+  bodyBytes-decodeRecord workKind e = (λ t. unsigned16-bytes 0 t ++ unsigned16-bytes 2 t) ∙ elements 4 body 0 e
   bodyBytes-decodeRecord loopKind e =
-      (λ t. unsigned16-bytes 0 t ++ unsigned16-bytes 2 t ++ unsigned16-bytes 4 t ++ formAt-bytes 6 t ++ formAt-bytes 15 t) ∙ table-getD 24 body 0 e
-  bodyBytes-decodeRecord endKind e = table-getD 0 body 0 e
-  bodyBytes-decodeRecord choiceKind e = table-getD 0 body 0 e
-  bodyBytes-decodeRecord nextArmKind e = table-getD 0 body 0 e
+      (λ t. unsigned16-bytes 0 t ++ unsigned16-bytes 2 t ++ unsigned16-bytes 4 t ++ formAt-bytes 6 t ++ formAt-bytes 15 t) ∙ elements 24 body 0 e
+  bodyBytes-decodeRecord endKind e = elements 0 body 0 e
+  bodyBytes-decodeRecord choiceKind e = elements 0 body 0 e
+  bodyBytes-decodeRecord nextArmKind e = elements 0 body 0 e
 
 -- ---- a written body is decoded as it was
 
@@ -138,16 +121,12 @@ formAt-drop body at =
     factor : (i : ℕ) → decodeSigned factorHalf (getD body (at + i) 0) ≡ decodeSigned factorHalf (getD (drop at body) i 0)
     factor i = ap (decodeSigned factorHalf) (same i)
 
-factor-fits : (xs : List ℤ) → T (factorsFit xs) → (i : ℕ) → T (hasPattern factorHalf (getD xs i (pos 0)))
+-- each of factors that have patterns has one
+pub factor-fits : (xs : List ℤ) → T (factorsFit xs) → (i : ℕ) → T (hasPattern factorHalf (getD xs i (pos 0)))
 unfolding factorsFit
 factor-fits [] t i = unfold hasPattern in tt
 factor-fits (x ∷ xs) t zero = T-and (hasPattern factorHalf x) (factorsFit xs) t .0
 factor-fits (x ∷ xs) t (suc i) = factor-fits xs (T-and (hasPattern factorHalf x) (factorsFit xs) t .1) i
-
-bytes-factors : (xs : List ℤ) → T (factorsFit xs) → Bytes (map (encodeSigned factorHalf) xs)
-unfolding factorsFit Bytes
-bytes-factors [] t = tt
-bytes-factors (x ∷ xs) t = let b = T-and (hasPattern factorHalf x) (factorsFit xs) t in (encode-bound factorHalf x (b .0), bytes-factors xs (b .1))
 
 module _ (depth : ℕ) (f : Form) (i : FormInRange depth f) where
   pub length-formBytes : length (formBytes f) ≡ 9
@@ -168,12 +147,14 @@ module _ (depth : ℕ) (f : Form) (i : FormInRange depth f) where
       listed : record { constant = f .constant; index = table indexFactors x; parameter = table parameterFactors y } ≡ f
       listed = λ t. record {
         constant = f .constant;
-        index = table-getD indexFactors (f .index) (pos 0) (i .indexCount) t;
-        parameter = table-getD parameterFactors (f .parameter) (pos 0) (i .parameterCount) t;
+        index = elements indexFactors (f .index) (pos 0) (i .indexCount) t;
+        parameter = elements parameterFactors (f .parameter) (pos 0) (i .parameterCount) t;
       }
 
       c : decodeSigned constantHalf (unsigned (littleEndian 2 (encodeSigned constantHalf (f .constant)))) ≡ f .constant
-      c = ap (decodeSigned constantHalf) (unsigned-littleEndian 2 (encodeSigned constantHalf (f .constant)) (encode-bound constantHalf (f .constant) (i .constantFits)))
+      c =
+          ap (decodeSigned constantHalf) (unsigned-littleEndian 2 (encodeSigned constantHalf (f .constant))
+          (encode-bound constantHalf (f .constant) (i .constantFits)))
           ∙ decode-encode constantHalf (f .constant) (i .constantFits)
 
       p : (n : ℕ) → decodeSigned factorHalf (encodeSigned factorHalf (x n)) ≡ x n
@@ -186,50 +167,16 @@ module _ (depth : ℕ) (f : Form) (i : FormInRange depth f) where
           ≡ record { constant = f .constant; index = table indexFactors x; parameter = table parameterFactors y }
       decoded = λ t. record { constant = c t; index = p 0 t ∷ p 1 t ∷ p 2 t ∷ []; parameter = q 0 t ∷ q 1 t ∷ q 2 t ∷ q 3 t ∷ [] }
 
-  pub bytes-formBytes : Bytes (formBytes f)
-  unfolding formBytes
-  bytes-formBytes =
-      bytes-append (littleEndian 2 (encodeSigned constantHalf (f .constant)) ++ map (encodeSigned factorHalf) (f .index)) (map (encodeSigned factorHalf) (f .parameter))
-      (bytes-append (littleEndian 2 (encodeSigned constantHalf (f .constant))) (map (encodeSigned factorHalf) (f .index))
-      (bytes-littleEndian 2 (encodeSigned constantHalf (f .constant))) (bytes-factors (f .index) (i .indexFit)))
-      (bytes-factors (f .parameter) (i .parameterFit))
-
-module _ (os : List Open) where
-  pub length-bodyBytes : (r : Record) → T (fieldsInRange os r) → length (bodyBytes r) ≡ bodyLength (kind r)
-  unfolding bodyBytes bodyLength kind
-  length-bodyBytes (workRecord least most) t = simp (length-append, length-littleEndian)
-  length-bodyBytes (loopRecord l) t =
-      let i = loop-in-range os l t in
-      simp (length-append, length-littleEndian, length-formBytes (loopDepth os) (l .lower) (i .lowerInRange), length-formBytes (loopDepth os) (l .upper) (i .upperInRange))
-  length-bodyBytes endRecord t = refl
-  length-bodyBytes choiceRecord t = refl
-  length-bodyBytes nextArmRecord t = refl
-
-  pub bytes-bodyBytes : (r : Record) → T (fieldsInRange os r) → Bytes (bodyBytes r)
-  unfolding bodyBytes
-  bytes-bodyBytes (workRecord least most) t = bytes-append (littleEndian 2 least) (littleEndian 2 most) (bytes-littleEndian 2 least) (bytes-littleEndian 2 most)
-  bytes-bodyBytes (loopRecord l) t =
-      let i = loop-in-range os l t in
-      let a : List ℕ = littleEndian 2 (l .start) in
-      let b : List ℕ = littleEndian 2 (l .step) in
-      let c : List ℕ = littleEndian 2 (l .stride) in
-      let f : List ℕ = formBytes (l .lower) in
-      bytes-append (a ++ b ++ c ++ f) (formBytes (l .upper))
-      (bytes-append (a ++ b ++ c) f
-      (bytes-append (a ++ b) c (bytes-append a b (bytes-littleEndian 2 (l .start)) (bytes-littleEndian 2 (l .step))) (bytes-littleEndian 2 (l .stride)))
-      (bytes-formBytes (loopDepth os) (l .lower) (i .lowerInRange)))
-      (bytes-formBytes (loopDepth os) (l .upper) (i .upperInRange))
-  bytes-bodyBytes endRecord t = unfold Bytes in tt
-  bytes-bodyBytes choiceRecord t = unfold Bytes in tt
-  bytes-bodyBytes nextArmRecord t = unfold Bytes in tt
-
-  loop-decoded : (l : Loop) → LoopInRange (loopDepth os) l → decodeRecord loopKind (bodyBytes (loopRecord l)) ≡ loopRecord l
+-- a loop whose fields fit their bytes is read back
+module _ (depth : ℕ) (l : Loop) (startFits : l .start < 2 ^ 16) (stepFits : l .step < 2 ^ 16) (strideFits : l .stride < 2 ^ 16)
+    (lowerFits : FormInRange depth (l .lower)) (upperFits : FormInRange depth (l .upper)) where
+  pub loop-decoded : decodeRecord loopKind (bodyBytes (loopRecord l)) ≡ loopRecord l
   unfolding decodeRecord bodyBytes unsigned16 littleEndian
-  loop-decoded l i =
+  loop-decoded =
       λ t. loopRecord (record {
-        start = unsigned-littleEndian 2 (l .start) (omega (arith, i .startSmall)) t;
-        step = unsigned-littleEndian 2 (l .step) (omega (arith, i .stepSmall)) t;
-        stride = unsigned-littleEndian 2 (l .stride) (omega (arith, i .strideSmall)) t;
+        start = unsigned-littleEndian 2 (l .start) startFits t;
+        step = unsigned-littleEndian 2 (l .step) stepFits t;
+        stride = unsigned-littleEndian 2 (l .stride) strideFits t;
         lower = lower t;
         upper = upper t;
       })
@@ -238,51 +185,39 @@ module _ (os : List Open) where
       body = bodyBytes (loopRecord l)
 
       lower : formAt body 6 ≡ l .lower
-      lower = formAt-drop body 6 ∙ formAt-formBytes (loopDepth os) (l .lower) (i .lowerInRange) (formBytes (l .upper))
+      lower = formAt-drop body 6 ∙ formAt-formBytes depth (l .lower) lowerFits (formBytes (l .upper))
 
       -- nine bytes of the lower form stand before the upper form
       after : drop 15 body ≡ formBytes (l .upper) ++ []
-      after = drop-at (formBytes (l .lower)) (formBytes (l .upper)) 9 (length-formBytes (loopDepth os) (l .lower) (i .lowerInRange)) ∙ sym (append-nil (formBytes (l .upper)))
+      after = drop-at (formBytes (l .lower)) (formBytes (l .upper)) 9 (length-formBytes depth (l .lower) lowerFits) ∙ sym (append-nil (formBytes (l .upper)))
 
       upper : formAt body 15 ≡ l .upper
-      upper = formAt-drop body 15 ∙ ap (λ (x : List ℕ). formAt x 0) after ∙ formAt-formBytes (loopDepth os) (l .upper) (i .upperInRange) []
+      upper = formAt-drop body 15 ∙ ap (λ (x : List ℕ). formAt x 0) after ∙ formAt-formBytes depth (l .upper) upperFits []
+
+module _ (os : List Open) where
+  pub length-bodyBytes : (r : Record) → T (fieldsInRange os r) → length (bodyBytes r) ≡ bodyLength (kind r)
+  unfolding bodyBytes bodyLength kind
+  length-bodyBytes (workRecord least most) t = simp (length-append, length-littleEndian)
+  length-bodyBytes (loopRecord l) t =
+      let i = loop-in-range os l t in
+      simp (
+        length-append,
+        length-littleEndian,
+        length-formBytes (loopDepth os) (l .lower) (i .lowerInRange),
+        length-formBytes (loopDepth os) (l .upper) (i .upperInRange),
+      )
+  length-bodyBytes endRecord t = refl
+  length-bodyBytes choiceRecord t = refl
+  length-bodyBytes nextArmRecord t = refl
 
   pub decodeRecord-bodyBytes : (r : Record) → T (fieldsInRange os r) → decodeRecord (kind r) (bodyBytes r) ≡ r
   unfolding decodeRecord bodyBytes kind unsigned16 littleEndian
   decodeRecord-bodyBytes (workRecord least most) t =
       let w = work-in-range os least most t in
       λ s. workRecord (unsigned-littleEndian 2 least (omega (arith, w .ordered, w .mostSmall)) s) (unsigned-littleEndian 2 most (omega (arith, w .mostSmall)) s)
-  decodeRecord-bodyBytes (loopRecord l) t = loop-decoded l (loop-in-range os l t)
+  decodeRecord-bodyBytes (loopRecord l) t =
+      let i = loop-in-range os l t in
+      loop-decoded (loopDepth os) l (omega (arith, i .startSmall)) (omega (arith, i .stepSmall)) (omega (arith, i .strideSmall)) (i .lowerInRange) (i .upperInRange)
   decodeRecord-bodyBytes endRecord t = refl
   decodeRecord-bodyBytes choiceRecord t = refl
   decodeRecord-bodyBytes nextArmRecord t = refl
-
--- ---- a decoded form
-
-and-yes : (a b : Bool) → T b → (a && b) ≡ a
-and-yes true b t = T→true b t
-and-yes false b t = refl
-
--- a form decoded from bytes has its patterns: of its tests only the one on factors of depths that do not enclose is left
-pub formInRange-formAt : (body : List ℕ) → Bytes body → (depth at : ℕ) → formInRange depth (formAt body at) ≡ allZero (drop depth (formAt body at .index))
-unfolding formInRange formAt factorsFit
-formInRange-formAt body h depth at =
-    let z = allZero (drop depth (formAt body at .index)) in
-    let c = hasPattern constantHalf (signed16 body at) in
-    let i = factorsFit (formAt body at .index) in
-    let p = factorsFit (formAt body at .parameter) in
-    and-yes (z && c && true && i && true) p
-    (factor 5 (fits 6 && (fits 7 && (fits 8 && true))) (factor 6 (fits 7 && (fits 8 && true)) (factor 7 (fits 8 && true) (factor 8 true tt))))
-    ∙ and-yes (z && c && true && i) true tt
-    ∙ and-yes (z && c && true) i (factor 2 (fits 3 && (fits 4 && true)) (factor 3 (fits 4 && true) (factor 4 true tt)))
-    ∙ and-yes (z && c) true tt
-    ∙ and-yes z c constant
-  where
-    constant : T (hasPattern constantHalf (signed16 body at))
-    constant = unfold signed16 in decode-hasPattern constantHalf (unsigned16 body at) (unsigned16-bound body h at)
-
-    fits : ℕ → Bool
-    fits n = hasPattern factorHalf (signed8 body (at + n))
-
-    factor : (n : ℕ) (others : Bool) → T others → T (fits n && others)
-    factor n others t = and-T (fits n) others (unfold signed8 in decode-hasPattern factorHalf (getD body (at + n) 0) (bytes-getD body h (at + n))) t

@@ -10,9 +10,9 @@ use lib.Seq.{drop-length, drop-drop, length-take-le}
 use lib.Dec.{leb, leb→le, le→leb}
 use Rattle.meaning.specs.Limits.{recordLimit}
 use Rattle.meaning.specs.Record.{kindNumber, kindOf, bodyLength, Record, kind, recordLength, decodeRecord, sheetLength, Open}
-use Rattle.meaning.specs.Reader.{Result, ok, orRefuse, Accepted, readRecord, readFrom, read, Head, headOf, headAt, bodyOf, bodyAt}
-use Rattle.meaning.proofs.Logic.{andThen-ok, require-ok, andThen-yes, require-yes, orRefuse-yes}
-use Rattle.meaning.proofs.Accepted.{IsAccepted, readRecord-ok, FirstRead, readFrom-first, readFrom-none}
+use Rattle.meaning.specs.Reader.{Result, ok, orRefuse, readFrom, read, Head, headOf, headAt, bodyOf, bodyAt}
+use Rattle.meaning.proofs.Logic.{andThen-ok, require-ok, andThen-yes, require-yes, orRefuse-yes, none-is-not-some, ok-injective}
+use Rattle.meaning.proofs.Accepted.{IsAccepted, FirstRead, readFrom-first, readFrom-none}
 use Rattle.meaning.proofs.RecordBytes.{kindNumber-kindOf}
 
 -- ---- one record
@@ -37,17 +37,8 @@ headOf-accepted at os k bytes r after i =
     let n : ℕ = bodyLength (kind r) in
     andThen-yes _ (orRefuse-yes 2 at (i .kindNamed))
     ∙ require-yes (leb n (length bytes)) 1 at _ (le→leb n (length bytes) (i .bodyThere))
-    ∙ ap {B = Result (Option Head)} (λ (m : ℕ). ok (some (record { kindNumber = m; bodyOffset = at + 1; bodyLength = n }))) (sym (kindNumber-kindOf k (kind r) (i .kindNamed)))
-
--- the record reader finds the kind and the body of each record that the reader accepts
-pub readRecord-head : (at : ℕ) (os : List Open) (k : ℕ) (bytes : List ℕ) (a : Accepted) → readRecord at os k bytes ≡ ok a →
-    headOf at (k ∷ bytes) ≡ ok (some (recordHead at (a .accepted)))
-readRecord-head at os k bytes a e = headOf-accepted at os k bytes (a .accepted) (a .after) (readRecord-ok at os k bytes a e)
-
--- and the reader decodes just that body
-pub readRecord-decoded : (at : ℕ) (os : List Open) (k : ℕ) (bytes : List ℕ) (a : Accepted) → readRecord at os k bytes ≡ ok a →
-    decodeRecord (kind (a .accepted)) (take (bodyLength (kind (a .accepted))) bytes) ≡ a .accepted
-readRecord-decoded at os k bytes a e = readRecord-ok at os k bytes a e .decoded
+    ∙ ap {B = Result (Option Head)} (λ (m : ℕ). ok (some (record { kindNumber = m; bodyOffset = at + 1; bodyLength = n })))
+    (sym (kindNumber-kindOf k (kind r) (i .kindNamed)))
 
 -- ---- one record of a sheet
 
@@ -65,7 +56,7 @@ pub length-bodyAt : (sheet : List ℕ) (at : ℕ) (h : Head) → headAt sheet at
 length-bodyAt sheet at h e = go (drop at sheet) refl
   where
     go : (bytes : List ℕ) → drop at sheet ≡ bytes → length (bodyAt sheet at) ≡ h .bodyLength
-    go [] d = unfold headAt headOf in absurd (let z : headOf at [] ≡ ok (some h) = ap (headOf at) (sym d) ∙ e in let w : _≡_ {A = ℕ} 0 1 = cc in omega arith)
+    go [] d = unfold headAt headOf in none-is-not-some (ok-injective (ap (headOf at) (sym d) ∙ e))
     go (k ∷ bytes) d =
         let b = bodyAt-cons sheet at k bytes h d e in
         ap (λ (x : List ℕ). length x) (b .0) ∙ length-take-le (h .bodyLength) bytes (b .1)
@@ -87,7 +78,8 @@ pub record ReadAfter (at : ℕ) (bytes : List ℕ) (xs ys : List Record) : Type 
   pub stillOpen : List Open
   pub readThere : readFrom left (at + sheetLength xs) stillOpen (drop (sheetLength xs) bytes) ≡ ok ys
 
-pub readFrom-after : (xs ys : List Record) (left at : ℕ) (os : List Open) (bytes : List ℕ) → readFrom left at os bytes ≡ ok (xs ++ ys) → ReadAfter at bytes xs ys
+pub readFrom-after : (xs ys : List Record) (left at : ℕ) (os : List Open) (bytes : List ℕ) → readFrom left at os bytes ≡ ok (xs ++ ys) →
+    ReadAfter at bytes xs ys
 unfolding sheetLength
 readFrom-after [] ys left at os bytes e = record { left = left; stillOpen = os; readThere = ap (λ (m : ℕ). readFrom left m os bytes) (add-zero at) ∙ e }
 readFrom-after (x ∷ xs) ys left at os bytes e =

@@ -8,7 +8,7 @@ use Prim.Native.Nat.{ℕ, zero, suc, _+_, _*_, _≤_}
 use native.Mathlib.Omega.{arith}
 use lib.ListN.{length, take, drop, length-take, length-drop}
 use lib.Dec.{T, leb, leb→le}
-use Rattle.meaning.specs.Limits.{recordLimit}
+use Rattle.meaning.specs.Limits.{recordLimit, recordLengthLimit}
 use Rattle.meaning.specs.Record.{kindOf, bodyLength, Record, kind, recordLength, decodeRecord, sheetBytes, Open, fieldsInRange, openAfter}
 use Rattle.meaning.specs.Reader.{Result, ok, refused, require, orRefuse, andThen, Accepted, accept, readRecord, endOfSheet, readFrom, read}
 use Rattle.meaning.specs.Writer.{RawRecord, foreignFieldsZero, recordOf, checkRecord, checkFrom, check, store, write}
@@ -81,10 +81,12 @@ module _ (limit : ℕ) where
   readFrom-refusals (suc left) at os (k ∷ bytes) n =
       refusals-andThen (ReaderRefusal limit) (readRecord at os k bytes) _ (readRecord-refusals at os k bytes (omega arith)) (λ a e.
       refusals-andThen (ReaderRefusal limit) (readFrom left (at + recordLength (a .accepted)) (a .after) (drop (bodyLength (kind (a .accepted))) bytes)) _
-      (readFrom-refusals left (at + recordLength (a .accepted)) (a .after) (drop (bodyLength (kind (a .accepted))) bytes) (inside a (readRecord-ok at os k bytes a e .bodyThere)))
+      (readFrom-refusals left (at + recordLength (a .accepted)) (a .after) (drop (bodyLength (kind (a .accepted))) bytes)
+      (inside a (readRecord-ok at os k bytes a e .bodyThere)))
       (λ rs q. refusals-ok (ReaderRefusal limit) _))
     where
-      inside : (a : Accepted) → bodyLength (kind (a .accepted)) ≤ length bytes → at + recordLength (a .accepted) + length (drop (bodyLength (kind (a .accepted))) bytes) ≤ limit
+      inside : (a : Accepted) → bodyLength (kind (a .accepted)) ≤ length bytes →
+          at + recordLength (a .accepted) + length (drop (bodyLength (kind (a .accepted))) bytes) ≤ limit
       inside a b = unfold recordLength in omega (arith, length-drop (bodyLength (kind (a .accepted))) bytes)
 
 pub read-refused : (sheet : List ℕ) (number place : ℕ) → read sheet ≡ refused number place → ReaderRefusal (length sheet) number place
@@ -94,22 +96,23 @@ read-refused sheet number place e =
 
 -- ---- the writer
 
--- 2, 3, 4, 5 or 9, at an offset that 64 records of at most 25 bytes reach
+-- 2, 3, 4, 5 or 9, at an offset inside the longest sheet, or at its end
 pub record WriterRefusal (number place : ℕ) : Type 0 where
   pub atLeast2 : 2 ≤ number
   pub atMost9 : number ≤ 9
   pub not6 : number ≢ 6
   pub not7 : number ≢ 7
   pub not8 : number ≢ 8
-  pub inside : place ≤ 25 * recordLimit
+  pub inside : place ≤ recordLengthLimit * recordLimit
 
-checkRecord-refusals : (at : ℕ) (os : List Open) (e : RawRecord) → at ≤ 25 * recordLimit → Refusals WriterRefusal (checkRecord at os e)
+checkRecord-refusals : (at : ℕ) (os : List Open) (e : RawRecord) → at ≤ recordLengthLimit * recordLimit → Refusals WriterRefusal (checkRecord at os e)
 unfolding checkRecord
 checkRecord-refusals at os e n =
     refusals-andThen WriterRefusal (orRefuse (kindOf (e .kindByte)) 2 at) _ (refusals-orRefuse WriterRefusal (kindOf (e .kindByte)) 2 at (omega arith)) (λ k q.
-    refusals-require WriterRefusal (foreignFieldsZero k e) 3 at _ (omega arith) (λ t. refusals-accept WriterRefusal at os (recordOf k e) (omega arith) (omega arith)))
+    refusals-require WriterRefusal (foreignFieldsZero k e) 3 at _ (omega arith)
+    (λ t. refusals-accept WriterRefusal at os (recordOf k e) (omega arith) (omega arith)))
 
-checkFrom-refusals : (at : ℕ) (os : List Open) (es : List RawRecord) → at + 25 * length es ≤ 25 * recordLimit → Refusals WriterRefusal (checkFrom at os es)
+checkFrom-refusals : (at : ℕ) (os : List Open) (es : List RawRecord) → at + recordLengthLimit * length es ≤ recordLengthLimit * recordLimit → Refusals WriterRefusal (checkFrom at os es)
 unfolding checkFrom
 checkFrom-refusals at os [] n = refusals-endOfSheet WriterRefusal at os [] (omega arith)
 checkFrom-refusals at os (e ∷ es) n =

@@ -10,12 +10,14 @@ use native.Mathlib.Omega.{arith}
 use lib.IntN.{ℤ}
 use lib.Dec.{T, ltb, ltb→lt, nltb→le}
 use lib.ListN.{length, length-append}
+use borrow.Author.Tests.{lt-ltb, le-ltb}
 use Rattle.meaning.specs.Limits.{ceilingLimit}
 use Rattle.meaning.specs.Record.{Record, workRecord, loopRecord, endRecord, choiceRecord, nextArmRecord, recordLength, sheetLength}
 use Rattle.meaning.specs.Tree.{Block, Arms, empty, work, loop, choice, lastArm, arm, records, armsRecords, loops, armsLoops}
 use Rattle.meaning.specs.Range.{Range, innerRanges}
+use Rattle.meaning.specs.Closed.{isClosed}
 use Rattle.meaning.specs.Report.{LoopReport, loopReports, armsReports, orElse, firstOverCeiling, allClosed}
-use Rattle.meaning.proofs.Logic.{T-and, and-T, true→T, ltb-yes, ltb-no, none-is-not-some}
+use Rattle.meaning.proofs.Logic.{T-and, and-T, true→T, none-is-not-some}
 
 -- ---- one report a loop
 
@@ -90,7 +92,8 @@ module _ (ps : List ℤ) where
         let afterLoop = at + recordLength (loopRecord l) in
         let afterEnd = afterLoop + sheetLength (records body) + recordLength endRecord in
         ap {B = List ℕ} (λ xs. at ∷ xs)
-        (offsets-join (loopReports ps body (innerRanges ps l ranges) afterLoop) (loopReports ps rest ranges afterEnd) afterLoop (records body) (endRecord ∷ records rest)
+        (offsets-join (loopReports ps body (innerRanges ps l ranges) afterLoop) (loopReports ps rest ranges afterEnd)
+        afterLoop (records body) (endRecord ∷ records rest)
         (report-offsets body (innerRanges ps l ranges) afterLoop) (report-offsets rest ranges afterEnd))
     report-offsets (choice arms rest) ranges at =
         let afterChoice = at + recordLength choiceRecord in
@@ -117,13 +120,20 @@ unfolding WithinCeiling
 within-append [] ss h = (tt, h)
 within-append (r ∷ rs) ss (p, h) = let i = within-append rs ss h in ((p, i .0), i .1)
 
-pub all-closed-append : (rs ss : List LoopReport) → T (allClosed (rs ++ ss)) → T (allClosed rs) × T (allClosed ss)
+pub allClosed-append : (rs ss : List LoopReport) → T (allClosed (rs ++ ss)) ↔ (T (allClosed rs) × T (allClosed ss))
 unfolding allClosed
-all-closed-append [] ss t = (tt, t)
-all-closed-append (r ∷ rs) ss t =
-    let p = T-and (r .closed) (allClosed (rs ++ ss)) t in
-    let i = all-closed-append rs ss (p .1) in
-    (and-T (r .closed) (allClosed rs) (p .0) (i .0), i .1)
+allClosed-append [] ss = (λ t. (tt, t), λ both. both .1)
+allClosed-append (r ∷ rs) ss =
+    let own : Bool = isClosed (r .class) in
+    let others = allClosed-append rs ss in (
+      λ t.
+          let tests = T-and own (allClosed (rs ++ ss)) t in
+          let apart = others .0 (tests .1) in
+          (and-T own (allClosed rs) (tests .0) (apart .0), apart .1),
+      λ both.
+          let tests = T-and own (allClosed rs) (both .0) in
+          and-T own (allClosed (rs ++ ss)) (tests .0) (others .1 (tests .1, both .1)),
+    )
 
 -- ---- the first loop above the limit
 
@@ -153,7 +163,7 @@ first-over-append : (rs ss : List LoopReport) → WithinCeiling rs → firstOver
 unfolding firstOverCeiling WithinCeiling orElse
 first-over-append [] ss h = refl
 first-over-append (r ∷ rs) ss (p, h) =
-    ap (λ c. orElse c (r .offset) (firstOverCeiling (rs ++ ss))) (ltb-no ceilingLimit (r .ceiling) p) ∙ first-over-append rs ss h
+    ap (λ c. orElse c (r .offset) (firstOverCeiling (rs ++ ss))) (le-ltb ceilingLimit (r .ceiling) p) ∙ first-over-append rs ss h
 
 first-over-at : (rs : List LoopReport) (offset : ℕ) → firstOverCeiling rs ≡ some offset → FirstOver rs offset
 unfolding firstOverCeiling WithinCeiling orElse
@@ -188,7 +198,7 @@ at-first-over : (rs : List LoopReport) (offset : ℕ) → FirstOver rs offset �
 unfolding firstOverCeiling orElse
 at-first-over rs offset h =
     ap firstOverCeiling (h .split) ∙ first-over-append (h .before) (h .over ∷ h .after) (h .beforeWithin)
-    ∙ ap (λ c. orElse c (h .over .offset) (firstOverCeiling (h .after))) (ltb-yes ceilingLimit (h .over .ceiling) (h .above))
+    ∙ ap (λ c. orElse c (h .over .offset) (firstOverCeiling (h .after))) (lt-ltb ceilingLimit (h .over .ceiling) (h .above))
     ∙ ap {B = Option ℕ} some (h .place)
 
 -- refusal 6 is at the first loop whose ceiling is above the limit

@@ -1,5 +1,5 @@
 -- Reading and writing a sheet undo each other.
-use mathlib.Core.Path.{_≡_, refl, sym, ap, _∙_, subst}
+use mathlib.Core.Path.{_≡_, sym, ap, _∙_, subst}
 use mathlib.Core.List.{List, [], _∷_, _++_}
 use mathlib.Core.Option.{some}
 use Prim.Native.Nat.{ℕ, zero, suc, _+_, _≤_}
@@ -8,12 +8,13 @@ use lib.ListN.{length, take, drop, length-append, take-append-drop}
 use lib.Seq.{take-at, drop-at, length-take-le}
 use lib.Dec.{T, leb, le→leb}
 use Rattle.meaning.specs.Limits.{recordLimit}
-use Rattle.meaning.specs.Record.{Kind, kindNumber, kindOf, bodyLength, Record, kind, recordLength, decodeRecord, bodyBytes, recordBytes, sheetBytes, sheetLength, Open, fieldsInRange, openAfter}
+use Rattle.meaning.specs.Record.{Kind, kindNumber, kindOf, bodyLength, Record, kind, recordLength, decodeRecord}
+use Rattle.meaning.specs.Record.{bodyBytes, recordBytes, sheetBytes, Open, fieldsInRange, openAfter}
 use Rattle.meaning.specs.Reader.{ok, accept, readRecord, endOfSheet, readFrom, read}
 use Rattle.meaning.proofs.Logic.{andThen-yes, require-yes, orRefuse-yes}
-use Rattle.meaning.proofs.Number.{Bytes, bytes-take, bytes-drop, bytes-append}
+use Rattle.meaning.proofs.Number.{Bytes, bytes-take, bytes-drop}
 use Rattle.meaning.proofs.Accepted.{IsAccepted, accept-in-place, readFrom-first, readFrom-none, InPlace, WellFormed}
-use Rattle.meaning.proofs.RecordBytes.{kindOf-kindNumber, kindNumber-kindOf, kindNumber-byte, bodyBytes-decodeRecord, length-bodyBytes, bytes-bodyBytes, decodeRecord-bodyBytes}
+use Rattle.meaning.proofs.RecordBytes.{kindOf-kindNumber, kindNumber-kindOf, bodyBytes-decodeRecord, length-bodyBytes, decodeRecord-bodyBytes}
 
 -- ---- writing what was read
 
@@ -61,7 +62,8 @@ readRecord-written : (at : ℕ) (os after : List Open) (r : Record) (rest : List
     readRecord at os (kindNumber (kind r)) (bodyBytes r ++ rest) ≡ ok (record { accepted = r; after = after })
 readRecord-written at os after r rest t e =
     let n = length-bodyBytes os r t in
-    readRecord-accept at os (kindNumber (kind r)) (bodyBytes r ++ rest) (kind r) (kindOf-kindNumber (kind r)) (omega (arith, n, length-append (bodyBytes r) rest))
+    readRecord-accept at os (kindNumber (kind r)) (bodyBytes r ++ rest) (kind r) (kindOf-kindNumber (kind r))
+    (omega (arith, n, length-append (bodyBytes r) rest))
     ∙ ap (λ (x : List ℕ). accept at os (decodeRecord (kind r) x)) (take-at (bodyBytes r) rest (bodyLength (kind r)) n)
     ∙ ap (accept at os) (decodeRecord-bodyBytes os r t)
     ∙ accept-in-place at os after r t e
@@ -87,17 +89,3 @@ readFrom-as-written (r ∷ rs) (suc left) at os n (after, e, t, h) =
 pub read-as-written : (rs : List Record) → WellFormed rs → read (sheetBytes rs) ≡ ok rs
 unfolding read
 read-as-written rs w = readFrom-as-written rs recordLimit 0 [] (w .short) (w .inPlace)
-
--- ---- the written bytes
-
-pub sheetBytes-bytes : (os : List Open) (rs : List Record) → InPlace os rs → Bytes (sheetBytes rs)
-unfolding sheetBytes recordBytes InPlace Bytes
-sheetBytes-bytes os [] h = tt
-sheetBytes-bytes os (r ∷ rs) (after, e, t, h) =
-    (kindNumber-byte (kind r), bytes-append (bodyBytes r) (sheetBytes rs) (bytes-bodyBytes os r t) (sheetBytes-bytes after rs h))
-
-pub sheetBytes-length : (os : List Open) (rs : List Record) → InPlace os rs → length (sheetBytes rs) ≡ sheetLength rs
-unfolding sheetBytes recordBytes InPlace sheetLength recordLength
-sheetBytes-length os [] h = refl
-sheetBytes-length os (r ∷ rs) (after, e, t, h) =
-    omega (arith, length-append (bodyBytes r) (sheetBytes rs), length-bodyBytes os r t, sheetBytes-length after rs h)

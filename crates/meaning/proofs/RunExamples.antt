@@ -16,9 +16,16 @@ use Rattle.meaning.proofs.Runs.{run-between}
 abbrev constantForm : ℕ → Form
 constantForm n = record { constant = pos n; index = pos 0 ∷ pos 0 ∷ pos 0 ∷ []; parameter = pos 0 ∷ pos 0 ∷ pos 0 ∷ pos 0 ∷ [] }
 
+abbrev outerIndex : Form
+outerIndex = record { constant = pos 0; index = pos 1 ∷ pos 0 ∷ pos 0 ∷ []; parameter = pos 0 ∷ pos 0 ∷ pos 0 ∷ pos 0 ∷ [] }
+
 -- i 0 to 1
 abbrev twoTrips : Loop
 twoTrips = record { start = 0; step = 0; stride = 1; lower = constantForm 0; upper = constantForm 1 }
+
+-- j 0 to i
+abbrev upToOuter : Loop
+upToOuter = record { start = 0; step = 0; stride = 1; lower = constantForm 0; upper = outerIndex }
 
 -- the parameters are of no matter here
 abbrev ps : List ℤ
@@ -65,6 +72,26 @@ choice-takes-1-then-8 = (
   refl,
   refl,
 )
+
+-- each trip runs at its own index: i 0 to 1 over j 0 to i takes one trip of j, then two
+pub later-trip-takes-2 : Run ps (loop twoTrips (loop upToOuter (work 1 1 empty) empty) empty) [] 3
+unfolding computes
+later-trip-takes-2 = (
+  3,
+  0,
+  (
+    1,
+    2,
+    (0, 1, refl, (1, 0, (0, 1, refl, one, refl), refl, refl), refl),
+    (2, 0, (1, 1, (0, 1, refl, one, refl), one, refl), refl, refl),
+    refl,
+  ),
+  refl,
+  refl,
+)
+  where
+    one : Run ps (work 1 1 empty) [] 1
+    one = (1, 0, omega arith, omega arith, refl, refl)
 
 -- no run takes more than the most
 pub work-never-takes-6 : ¬ Run ps work3to5 [] 6

@@ -55,12 +55,12 @@ mutual
 -- ---- both are reached
 
 -- `Runs` has one run that takes exactly the least and one that takes exactly the most
-pub record Reached (Runs : ℕ → Type 0) (b : Bounds) : Type 0 where
+pub record BothReached (Runs : ℕ → Type 0) (b : Bounds) : Type 0 where
   pub fastest : Runs (b .least)
   pub slowest : Runs (b .most)
 
-pub trips-reached : (step : ℕ) (Body : ℕ → ℕ → Type 0) (f : ℕ → Bounds) → ((trip : ℕ) → Reached (Body trip) (f trip)) →
-    (n : ℕ) → Reached (TripsRun step Body n) (sumOver n (λ trip. f trip ⊕ exactly step))
+pub trips-reached : (step : ℕ) (Body : ℕ → ℕ → Type 0) (f : ℕ → Bounds) → ((trip : ℕ) → BothReached (Body trip) (f trip)) →
+    (n : ℕ) → BothReached (TripsRun step Body n) (sumOver n (λ trip. f trip ⊕ exactly step))
 unfolding TripsRun sumOver
 trips-reached step Body f h zero = record { fastest = refl; slowest = refl }
 trips-reached step Body f h (suc n) =
@@ -81,7 +81,7 @@ choose-arm A B x y z (inr e) p q = inr (subst B (sym e) q)
 mutual
   unfolding Run time Sound
 
-  pub run-reached : (b : Block) → Sound b → (ps indexes : List ℤ) → Reached (Run ps b indexes) (time ps b indexes)
+  pub run-reached : (b : Block) → Sound b → (ps indexes : List ℤ) → BothReached (Run ps b indexes) (time ps b indexes)
   run-reached empty s ps indexes = record { fastest = refl; slowest = refl }
   run-reached (work least most rest) s ps indexes =
       let i = run-reached rest (s .1) ps indexes in
@@ -99,7 +99,7 @@ mutual
       let j = arm-run-reached arms (s .0) ps indexes in
       record { fastest = (_, _, j .fastest, i .fastest, refl); slowest = (_, _, j .slowest, i .slowest, refl) }
 
-  pub arm-run-reached : (arms : Arms) → ArmsSound arms → (ps indexes : List ℤ) → Reached (ArmRun ps arms indexes) (armsTime ps arms indexes)
+  pub arm-run-reached : (arms : Arms) → ArmsSound arms → (ps indexes : List ℤ) → BothReached (ArmRun ps arms indexes) (armsTime ps arms indexes)
   arm-run-reached (lastArm b) s ps indexes = let i = run-reached b s ps indexes in record { fastest = i .fastest; slowest = i .slowest }
   arm-run-reached (arm b arms) s ps indexes =
       let i = run-reached b (s .0) ps indexes in

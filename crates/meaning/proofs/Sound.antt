@@ -3,14 +3,15 @@ use Prim.Native.Nat.{ℕ, _≤_}
 use Rattle.meaning.specs.Limits.{costLimit}
 use Rattle.meaning.specs.Record.{Loop}
 use Rattle.meaning.specs.Tree.{Block, Arms, empty, work, loop, choice, lastArm, arm}
+use Rattle.meaning.specs.Time.{strideSize, entryCost}
 
 pub record WorkSound (least most : ℕ) : Type 0 where
   pub ordered : least ≤ most
   pub mostSmall : most ≤ costLimit
 
 pub record LoopSound (l : Loop) : Type 0 where
-  pub moves : 1 ≤ l .stride
-  pub startSmall : l .start ≤ costLimit
+  pub moves : 1 ≤ strideSize l
+  pub entrySmall : (trips : ℕ) → entryCost l trips ≤ costLimit
   pub stepSmall : l .step ≤ costLimit
 
 unfoldable mutual

@@ -1,20 +1,27 @@
--- The stages from a sheet's start reach its end with the time and visits of the definitions.
+-- The stages from a sheet's start reach its end with the time and visits of the definitions, each but the last beginning a visit.
 use mathlib.Core.Path.{_≡_, refl, sym, ap, _∙_}
-use mathlib.Core.List.{List, [], _++_, append-nil}
-use Prim.Native.Nat.{ℕ, zero, suc, _+_, _-_, _≤_, _<_}
+use mathlib.Core.List.{List, []}
+use Prim.Native.Nat.{ℕ, zero, suc, _+_, _≤_, _<_}
+use native.Mathlib.Decide.{decLe}
 use native.Mathlib.Omega.{arith}
 use lib.IntN.{ℤ}
+use lib.ListN.{length}
 use Rattle.meaning.specs.Record.{Record}
 use Rattle.meaning.specs.Tree.{tree, records}
 use Rattle.meaning.specs.Time.{Bounds, time}
 use Rattle.meaning.specs.Visits.{visits}
-use Rattle.meaning.specs.Stage.{Frame, State, state, firstState, Step, beginsVisit, atEnd, stateOf, indexesOf, rangesOf, stage, stages, visitsBegun}
+use Rattle.meaning.specs.Stage.{State, state, firstState, Step, going, beginsVisit, atEnd, stuck, stateOf, visitBegun, stage, stages, visitsBegun}
 use Rattle.meaning.specs.Demand.{StagesReach}
 use Rattle.meaning.proofs.Sound.{Sound}
-use Rattle.meaning.proofs.Trips.{Inside}
-use Rattle.meaning.proofs.Passes.{stage-visits, stage-at-end}
-use Rattle.meaning.proofs.Leads.{Leads, leads-equal, leads-begins, leads-stages, leads-last}
-use Rattle.meaning.proofs.Simulation.{adds-records, adds-from-zero, block-adds}
+use Rattle.meaning.proofs.Passes.{StageDoes, stage-does, stage-visits}
+use Rattle.meaning.proofs.AddingUp.{AddsUp, StepAddsUp, visits-at-most, ended-state, adds-up-stage, adds-up-stages, first-adds-up}
+
+begun-once : (p : Step) → visitBegun p ≤ 1
+unfolding visitBegun
+begun-once (going s) = omega arith
+begun-once (beginsVisit s) = omega arith
+begun-once (atEnd s) = omega arith
+begun-once (stuck s) = omega arith
 
 module _ (ps : List ℤ) where
   -- after any number of stages from any state, the visits have grown by the stages that began one
@@ -23,82 +30,106 @@ module _ (ps : List ℤ) where
   stages-count zero s = omega arith
   stages-count (suc n) s = omega (arith, stages-count n s, stage-visits ps (stages ps n s))
 
-  pub stages-rise : (n : ℕ) (s : State) → stages ps n s .visits ≤ stages ps (suc n) s .visits
+  -- which are no more than the stages
+  begun-at-most : (n : ℕ) (s : State) → visitsBegun ps n s ≤ n
+  unfolding visitsBegun
+  begun-at-most zero s = omega arith
+  begun-at-most (suc n) s = omega (arith, begun-at-most n s, begun-once (stage ps (stages ps n s)))
+
+  stages-rise : (n : ℕ) (s : State) → stages ps n s .visits ≤ stages ps (suc n) s .visits
   unfolding stages
   stages-rise n s = omega (arith, stage-visits ps (stages ps n s))
 
-  pub stages-rise-further : (k n : ℕ) (s : State) → stages ps n s .visits ≤ stages ps (k + n) s .visits
-  stages-rise-further zero n s = let e : 0 + n ≡ n = omega arith in omega (arith, ap (λ (m : ℕ). stages ps m s .visits) e)
-  stages-rise-further (suc k) n s =
-      let e : suc k + n ≡ suc (k + n) = omega arith in
-      omega (arith, stages-rise-further k n s, stages-rise (k + n) s, ap (λ (m : ℕ). stages ps m s .visits) e)
-
-  -- the stages from a state that leads to a sheet's end after so many visits
-  module _ (total : ℕ) (s : State) (c : Bounds) (fs : List Frame) (v : ℕ) (leads : Leads ps total s (state [] c fs v)) where
-    leads-after : (n left : ℕ) → total ≡ n + left → Leads ps left (stages ps n s) (state [] c fs v)
-    leads-after n left e = leads-stages ps n left s (state [] c fs v) (leads-equal ps total (n + left) s _ _ e refl leads)
-
-    pub stage-begins : (n : ℕ) → n < total → stage ps (stages ps n s) ≡ beginsVisit (stages ps (suc n) s)
-    unfolding stages
-    stage-begins n h =
-        let left : ℕ = total - suc n in
-        leads-begins ps left (stages ps n s) (state [] c fs v) (leads-after n (suc left) (omega arith))
-
-    ends-after : (k : ℕ) → stage ps (stages ps (k + total) s) ≡ atEnd (state [] c fs v)
-    unfolding stages stateOf
-    ends-after zero = leads-last ps _ (state [] c fs v) (leads-after (0 + total) 0 (omega arith)) ∙ stage-at-end ps c fs v
-    ends-after (suc k) =
-        let e : suc k + total ≡ suc (k + total) = omega arith in
-        ap (λ (m : ℕ). stage ps (stages ps m s)) e ∙ ap (λ (p : Step). stage ps (stateOf p)) (ends-after k) ∙ stage-at-end ps c fs v
-
-    pub stage-ends : (n : ℕ) → total ≤ n → stage ps (stages ps n s) ≡ atEnd (state [] c fs v)
-    stage-ends n h = let e : n ≡ n - total + total = omega arith in ap (λ (m : ℕ). stage ps (stages ps m s)) e ∙ ends-after (n - total)
-
-    pub end-reached : (n : ℕ) → total < n → stages ps n s ≡ state [] c fs v
-    unfolding stages stateOf
-    end-reached zero h = absurd (omega arith)
-    end-reached (suc n) h = ap stateOf (stage-ends n (omega arith))
-
-    pub visits-bounded : (n : ℕ) → stages ps n s .visits ≤ v
-    visits-bounded n =
-        omega (arith, stages-rise-further (suc total) n s, ap (λ (t : State). t .visits) (end-reached (suc total + n) (omega arith)))
-
-  -- the stages from the start of a sheet with the records rs
+  -- The stages from the start of a sheet with the records rs.
   module _ (rs : List Record) (sound : Sound (tree rs)) (same : records (tree rs) ≡ rs) where
-    abbrev sheetVisits : ℕ
-    sheetVisits = visits ps (tree rs) [] []
+    abbrev whole : Bounds
+    whole = time ps (tree rs) []
 
-    abbrev sheetEnd : State
-    sheetEnd = state [] (time ps (tree rs) []) [] sheetVisits
+    abbrev all : ℕ
+    all = visits ps (tree rs) [] []
 
-    start-leads : Leads ps sheetVisits (firstState rs) sheetEnd
-    unfolding firstState Inside indexesOf rangesOf
-    start-leads =
-        let e : 0 + sheetVisits ≡ sheetVisits = omega arith in
-        leads-equal ps sheetVisits sheetVisits _ _ _ refl (ap (state [] (time ps (tree rs) []) []) e)
-        (adds-from-zero ps [] rs [] (time ps (tree rs) []) sheetVisits 0
-        (adds-records ps [] rs (records (tree rs) ++ []) [] _ _ (sym (append-nil (records (tree rs)) ∙ same))
-        (block-adds ps (tree rs) sound [] [] tt)))
+    abbrev after : ℕ → State
+    after n = stages ps n (firstState rs)
 
-    -- No stage from the sheet's start is stuck: each of the first ones begins a visit, as many as there are visits by the definition.
-    pub stages-begin-visits : (n : ℕ) → n < visits ps (tree rs) [] [] →
-        stage ps (stages ps n (firstState rs)) ≡ beginsVisit (stages ps (suc n) (firstState rs))
-    stages-begin-visits = stage-begins sheetVisits (firstState rs) (time ps (tree rs) []) [] sheetVisits start-leads
+    abbrev end : State
+    end = state [] whole [] all
 
-    -- Every further stage comes to the sheet's end, always in the same state.
-    pub stages-stay-at-end : (n : ℕ) → visits ps (tree rs) [] [] ≤ n →
-        stage ps (stages ps n (firstState rs)) ≡ atEnd (state [] (time ps (tree rs) []) [] (visits ps (tree rs) [] []))
-    stages-stay-at-end = stage-ends sheetVisits (firstState rs) (time ps (tree rs) []) [] sheetVisits start-leads
+    pub stages-add-up : (n : ℕ) → AddsUp ps whole all (after n)
+    stages-add-up n = adds-up-stages ps whole all n (firstState rs) (first-adds-up ps rs sound same)
 
-    pub stages-at-end : (n : ℕ) → visits ps (tree rs) [] [] < n →
-        stages ps n (firstState rs) ≡ state [] (time ps (tree rs) []) [] (visits ps (tree rs) [] [])
-    stages-at-end = end-reached sheetVisits (firstState rs) (time ps (tree rs) []) [] sheetVisits start-leads
+    bounded : (n : ℕ) → after n .visits ≤ all
+    bounded n = visits-at-most ps whole all (after n) (stages-add-up n)
+
+    -- every state that stands at the sheet's end is the same
+    only-end : (n : ℕ) → after n .remaining ≡ [] → after n ≡ end
+    only-end n e = ended-state ps whole all (after n) (stages-add-up n) e
+
+    -- a further stage begins a visit or comes to the sheet's end, and where it begins one a trip is open
+    outcome : (n : ℕ) (X : Type 0) →
+        ((t : State) → stage ps (after n) ≡ beginsVisit t → t .visits ≡ suc (after n .visits) → 1 ≤ length (t .frames) → X) →
+        (stage ps (after n) ≡ atEnd end → after n .visits ≡ all → X) → X
+    outcome n X begins ends =
+        go (stage ps (after n)) refl (stage-does ps (after n)) (adds-up-stage ps whole all (after n) (stages-add-up n))
+      where
+        go : (p : Step) → stage ps (after n) ≡ p → StageDoes ps (after n) p → StepAddsUp ps whole all p → X
+        go (going t) e d a = unfold StageDoes in absurd d
+        go (beginsVisit t) e d a = unfold StageDoes in begins t e (d .0) (d .1)
+        go (atEnd t) e d a = unfold StageDoes StepAddsUp in
+            let is = ended-state ps whole all t a (d .1) in
+            ends (e ∙ ap atEnd is) (sym (d .0) ∙ ap (λ (s : State). s .visits) is)
+        go (stuck t) e d a = unfold StepAddsUp in absurd a
+
+    -- each of the first stages begins a visit, as many as there are visits by the definition
+    begins : (n : ℕ) → n < all → stage ps (after n) ≡ beginsVisit (after (suc n))
+    unfolding stages stateOf firstState
+    begins n h =
+        outcome n (stage ps (after n) ≡ beginsVisit (after (suc n)))
+        (λ t e more inside. e ∙ ap beginsVisit (sym (ap stateOf e)))
+        (λ e reached. absurd (omega (arith, stages-count n (firstState rs), begun-at-most n (firstState rs))))
+
+    made : (n : ℕ) → n ≤ all → n ≤ after n .visits
+    unfolding stages visitBegun
+    made zero h = omega arith
+    made (suc n) h = omega (arith, made n (omega arith), stage-visits ps (after n), ap visitBegun (begins n (omega arith)))
+
+    all-made : (n : ℕ) → all ≤ n → all ≤ after n .visits
+    all-made zero h = omega arith
+    all-made (suc n) h =
+        elim (decLe all n) [ yes i ↦ omega (arith, all-made n i, stages-rise n (firstState rs)) | no i ↦ omega (arith, made (suc n) (omega arith)) ]
+
+    -- every further stage comes to the sheet's end, always in the same state
+    ends : (n : ℕ) → all ≤ n → stage ps (after n) ≡ atEnd end
+    unfolding stages stateOf
+    ends n h =
+        outcome n (stage ps (after n) ≡ atEnd end)
+        (λ t e more inside. absurd (omega (arith, all-made n h, bounded (suc n), ap (λ (p : Step). stateOf p .visits) e)))
+        (λ e reached. e)
+
+    reached : (n : ℕ) → all < n → after n ≡ end
+    unfolding stages stateOf
+    reached zero h = absurd (omega arith)
+    reached (suc n) h = ap stateOf (ends n (omega arith))
+
+    -- no state before the end stands there, but the first one of an empty sheet
+    none-before : (n : ℕ) → n ≤ all → after n .remaining ≡ [] → (n ≡ 0) × (rs ≡ [])
+    unfolding stages stateOf firstState
+    none-before zero h e = (refl, e)
+    none-before (suc n) h e =
+        outcome n ((suc n ≡ 0) × (rs ≡ []))
+        (λ t b more inside.
+        let nothing-open = ap (λ (s : State). length (s .frames)) (only-end (suc n) e) in
+        absurd (omega (arith, nothing-open, ap (λ (p : Step). length (stateOf p .frames)) b)))
+        (λ b finished. absurd (omega (arith, stages-count n (firstState rs), begun-at-most n (firstState rs))))
 
     pub stages-reach : StagesReach ps rs
     unfolding firstState
     stages-reach = record {
       counted = λ n. omega (arith, stages-count n (firstState rs));
       rising = λ n. stages-rise n (firstState rs);
-      bounded = visits-bounded sheetVisits (firstState rs) (time ps (tree rs) []) [] sheetVisits start-leads;
-      reached = stages-at-end (suc sheetVisits) (omega arith);
+      bounded = bounded;
+      begins = begins;
+      ends = ends;
+      reached = reached;
+      onlyEnd = only-end;
+      noneBefore = none-before;
     }

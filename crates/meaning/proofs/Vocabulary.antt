@@ -12,6 +12,7 @@ use Rattle.meaning.specs.Form.{Form}
 use Rattle.meaning.specs.Record.{Loop, Record}
 use Rattle.meaning.specs.Reader.{Result, ok, refused, read, Head}
 use Rattle.meaning.specs.Writer.{RawRecord, Written}
+use Rattle.meaning.specs.Closed.{closedClass, walkedClass}
 use Rattle.meaning.specs.Report.{LoopReport}
 use Rattle.meaning.specs.Stage.{State, firstState, stages}
 use Rattle.meaning.specs.CCall.{Called}
@@ -42,13 +43,14 @@ abbrev pub loopOf : ℕ → ℕ → ℕ → Form → Form → Loop
 loopOf start step stride lower upper = record { start = start; step = step; stride = stride; lower = lower; upper = upper }
 
 abbrev pub raw : ℕ → ℕ → ℕ → ℕ → ℕ → ℕ → Form → Form → RawRecord
-raw kindByte least most start step stride lower upper = record { kindByte = kindByte; least = least; most = most; loopFields = loopOf start step stride lower upper }
+raw kindByte least most start step stride lower upper =
+    record { kindByte = kindByte; least = least; most = most; loopFields = loopOf start step stride lower upper }
 
 abbrev pub closedLoop : ℕ → ℕ → LoopReport
-closedLoop offset ceiling = record { offset = offset; closed = true; ceiling = ceiling }
+closedLoop offset ceiling = record { offset = offset; class = closedClass; ceiling = ceiling }
 
 abbrev pub walkedLoop : ℕ → ℕ → LoopReport
-walkedLoop offset ceiling = record { offset = offset; closed = false; ceiling = ceiling }
+walkedLoop offset ceiling = record { offset = offset; class = walkedClass; ceiling = ceiling }
 
 unfoldable pub sheetReportsOf : List ℕ → List ℤ → List LoopReport
 sheetReportsOf sheet parameters = reportsOf parameters (read sheet)

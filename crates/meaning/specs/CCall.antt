@@ -17,7 +17,7 @@ pub record Called : Type 0 where
 unfoldable pub areaBytes : Figures → List ℕ
 areaBytes f = littleEndian 8 (f .least) ++ littleEndian 8 (f .most) ++ littleEndian 8 (f .visits)
 
--- bytes past the 24th never change; a refusal writes nothing
+-- bytes past areaLength never change; a refusal writes nothing
 unfoldable pub storeAnswer : List ℕ → Result Figures → Called
 storeAnswer area (ok f) = record { number = 0; area = areaBytes f ++ drop areaLength area }
 storeAnswer area (refused number place) = record { number = number; area = area }

@@ -1,6 +1,6 @@
 -- Pushes, and which loops are closed.
 use mathlib.Core.List.{List, [], _∷_, _++_, map}
-use mathlib.Core.Bool.{Bool, true, _&&_}
+use mathlib.Core.Bool.{Bool, true, false, cond, _&&_}
 use Prim.Native.Nat.{ℕ, zero}
 use lib.IntN.{ℤ, pos, negℤ}
 use lib.Signed.{leZ}
@@ -10,7 +10,7 @@ use Rattle.whole.specs.Integer.{dot, divides}
 use Rattle.meaning.specs.Form.{Form}
 use Rattle.meaning.specs.Record.{Loop}
 use Rattle.meaning.specs.Tree.{Block, empty, work, loop, choice, armsLoops}
-use Rattle.meaning.specs.Time.{difference}
+use Rattle.meaning.specs.Time.{difference, signedStride, strideSize}
 use Rattle.meaning.specs.Range.{Range, innerRanges, differenceRange}
 
 -- document 01: push of a loop on a form: what its next trip adds to the form's value, where `pushes` has what it adds to the indexes at
@@ -20,7 +20,7 @@ push f pushes = dot (f .index) pushes
 
 -- a loop's pushes on the indexes up to its own, `depth` loops being around it: its own index moves by its stride
 unfoldable pub pushOwn : Loop → ℕ → List ℤ
-pushOwn l depth = replicate depth (pos zero) ++ (pos (l .stride) ∷ [])
+pushOwn l depth = replicate depth (pos zero) ++ (signedStride l ∷ [])
 
 -- another loop's pushes, with the one on the index of loop l just inside: a deeper index moves by its lower form
 unfoldable pub pushInner : Loop → List ℤ → List ℤ
@@ -29,7 +29,19 @@ pushInner l pushes = pushes ++ (push (l .lower) pushes ∷ [])
 -- the loop's stride divides the push on its D of each of the loops
 unfoldable pub strideDivides : Loop → List (List ℤ) → Bool
 strideDivides l [] = true
-strideDivides l (pushes ∷ others) = divides (l .stride) (push (difference l) pushes) && strideDivides l others
+strideDivides l (pushes ∷ others) = divides (strideSize l) (push (difference l) pushes) && strideDivides l others
+
+-- the smallest D that closing a loop asks of a loop inside it: minus that one's stride
+unfoldable pub askedDifference : Loop → ℤ
+askedDifference l = negℤ (pos (strideSize l))
+
+-- document 01: a loop is closed, or otherwise walked
+pub data LoopClass : Type 0 where
+  closedClass walkedClass : LoopClass
+
+unfoldable pub isClosed : LoopClass → Bool
+isClosed closedClass = true
+isClosed walkedClass = false
 
 module _ (parameters : List ℤ) where
   -- what closing a loop asks of what is inside it: `ranges` are those of the indexes around, `pushes` those of that loop and of each
@@ -38,11 +50,14 @@ module _ (parameters : List ℤ) where
   closable empty ranges pushes = true
   closable (work least most rest) ranges pushes = closable rest ranges pushes
   closable (loop l body rest) ranges pushes =
-      leZ (negℤ (pos (l .stride))) (differenceRange parameters l ranges .lo) && strideDivides l pushes
+      leZ (askedDifference l) (differenceRange parameters l ranges .lo) && strideDivides l pushes
       && closable body (innerRanges parameters l ranges) (pushOwn l (length ranges) ∷ map (pushInner l) pushes)
       && closable rest ranges pushes
   closable (choice arms rest) ranges pushes = eqb (armsLoops arms) zero && closable rest ranges pushes
 
-  -- document 01: closed; a loop that is not is walked
+  -- document 01: closed
   unfoldable pub closed : Loop → Block → List Range → Bool
   closed l body ranges = closable body (innerRanges parameters l ranges) (pushOwn l (length ranges) ∷ [])
+
+  unfoldable pub loopClass : Loop → Block → List Range → LoopClass
+  loopClass l body ranges = cond (closed l body ranges) closedClass walkedClass

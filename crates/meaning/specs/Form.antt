@@ -25,7 +25,8 @@ formAt body at = record {
 
 -- its nine bytes
 unfoldable pub formBytes : Form → List ℕ
-formBytes f = littleEndian 2 (encodeSigned constantHalf (f .constant)) ++ map (encodeSigned factorHalf) (f .index) ++ map (encodeSigned factorHalf) (f .parameter)
+formBytes f =
+    littleEndian 2 (encodeSigned constantHalf (f .constant)) ++ map (encodeSigned factorHalf) (f .index) ++ map (encodeSigned factorHalf) (f .parameter)
 
 unfoldable pub isZero : ℤ → Bool
 isZero (pos zero) = true

@@ -1,5 +1,5 @@
 -- Document 01's numbers, each named once.
-use Prim.Native.Nat.{ℕ, _^_}
+use Prim.Native.Nat.{ℕ, _+_, _*_, _^_}
 
 -- "The sheet": at most 64 records, loops 4 deep, 8 records open together
 abbrev pub recordLimit : ℕ
@@ -10,6 +10,16 @@ depthLimit = 4
 
 abbrev pub openLimit : ℕ
 openLimit = 8
+
+-- a loop has the longest body; the longest record with its kind, and the longest sheet
+abbrev pub bodyLimit : ℕ
+bodyLimit = 24
+
+abbrev pub recordLengthLimit : ℕ
+recordLengthLimit = 1 + bodyLimit
+
+abbrev pub sheetLengthLimit : ℕ
+sheetLengthLimit = recordLimit * recordLengthLimit
 
 -- "The sheet": the largest most of a work, start and step of a loop; a loop's largest stride
 abbrev pub costLimit : ℕ
@@ -52,9 +62,10 @@ figureLimit = 2 ^ 62
 abbrev pub visitsPerLoop : ℕ
 visitsPerLoop = 24
 
--- `bound`: four parameters and the budget stand before the sheet; so many bytes of the input matter
+-- `bound`: four parameters and the budget stand before the sheet
 abbrev pub headerLength : ℕ
 headerLength = 12
 
+-- these, the longest sheet, and a byte of one record more: so many bytes of the input matter
 abbrev pub inputLimit : ℕ
-inputLimit = 1613
+inputLimit = headerLength + sheetLengthLimit + 1

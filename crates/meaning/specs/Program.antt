@@ -2,6 +2,7 @@
 use mathlib.Core.List.{List, [], _∷_, _++_}
 use mathlib.Core.Bool.{cond}
 use Prim.Native.Nat.{ℕ}
+use Prim.Native.String.{String}
 use lib.IntN.{ℤ}
 use lib.Dec.{ltb}
 use lib.ListN.{length, take, drop}
@@ -10,6 +11,7 @@ use Rattle.meaning.specs.Text.{text, decimal}
 use Rattle.meaning.specs.Number.{unsigned, signed16}
 use Rattle.meaning.specs.Record.{Record}
 use Rattle.meaning.specs.Reader.{Result, ok, refused, read}
+use Rattle.meaning.specs.Closed.{LoopClass, closedClass, walkedClass}
 use Rattle.meaning.specs.Report.{LoopReport}
 use Rattle.meaning.specs.Answer.{Figures, sheetReports, answer}
 
@@ -17,9 +19,14 @@ use Rattle.meaning.specs.Answer.{Figures, sheetReports, answer}
 unfoldable pub figuresLine : Figures → List ℕ
 figuresLine f = text "best " ++ decimal (f .least) ++ text " worst " ++ decimal (f .most) ++ text " visits " ++ decimal (f .visits) ++ text "\n"
 
+-- the word for a loop's class
+unfoldable pub className : LoopClass → String
+className closedClass = "closed"
+className walkedClass = "walked"
+
 -- `loop O closed ceiling C`, or walked
 unfoldable pub loopLine : LoopReport → List ℕ
-loopLine r = text "loop " ++ decimal (r .offset) ++ text (cond (r .closed) " closed" " walked") ++ text " ceiling " ++ decimal (r .ceiling) ++ text "\n"
+loopLine r = text "loop " ++ decimal (r .offset) ++ text " " ++ text (className (r .class)) ++ text " ceiling " ++ decimal (r .ceiling) ++ text "\n"
 
 unfoldable pub loopLines : List LoopReport → List ℕ
 loopLines [] = []

@@ -5,7 +5,7 @@ use lib.IntN.{ℤ, pos, negsuc, _+ℤ_, _*ℤ_}
 use Rattle.whole.specs.Integer.{dot, larger}
 use Rattle.meaning.specs.Form.{Form}
 use Rattle.meaning.specs.Record.{Loop}
-use Rattle.meaning.specs.Time.{difference, tripCount}
+use Rattle.meaning.specs.Time.{difference, strideSize, tripCount}
 
 pub record Range : Type 0 where
   pub lo : ℤ
@@ -46,4 +46,4 @@ module _ (parameters : List ℤ) where
 
   -- document 01: ceiling
   unfoldable pub ceiling : Loop → List Range → ℕ
-  ceiling l ranges = tripCount (differenceRange l ranges .hi) (l .stride)
+  ceiling l ranges = tripCount (differenceRange l ranges .hi) (strideSize l)

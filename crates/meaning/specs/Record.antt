@@ -61,7 +61,8 @@ recordLength r = 1 + bodyLength (kind r)
 
 unfoldable pub decodeRecord : Kind → List ℕ → Record
 decodeRecord workKind body = workRecord (unsigned16 body 0) (unsigned16 body 2)
-decodeRecord loopKind body = loopRecord (record { start = unsigned16 body 0; step = unsigned16 body 2; stride = unsigned16 body 4; lower = formAt body 6; upper = formAt body 15 })
+decodeRecord loopKind body =
+    loopRecord (record { start = unsigned16 body 0; step = unsigned16 body 2; stride = unsigned16 body 4; lower = formAt body 6; upper = formAt body 15 })
 decodeRecord endKind body = endRecord
 decodeRecord choiceKind body = choiceRecord
 decodeRecord nextArmKind body = nextArmRecord

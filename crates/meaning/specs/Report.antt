@@ -1,4 +1,4 @@
--- What is said of each loop, in sheet order: its offset, whether it is closed, its ceiling.
+-- What is said of each loop, in sheet order: its offset, whether it is closed or walked, its ceiling.
 use mathlib.Core.List.{List, [], _∷_, _++_}
 use mathlib.Core.Bool.{Bool, true, false, _&&_}
 use mathlib.Core.Option.{Option, none, some}
@@ -9,11 +9,11 @@ use Rattle.meaning.specs.Limits.{ceilingLimit}
 use Rattle.meaning.specs.Record.{workRecord, loopRecord, endRecord, choiceRecord, nextArmRecord, recordLength, sheetLength}
 use Rattle.meaning.specs.Tree.{Block, Arms, empty, work, loop, choice, lastArm, arm, records, armsRecords}
 use Rattle.meaning.specs.Range.{Range, innerRanges, ceiling}
-use Rattle.meaning.specs.Closed.{closed}
+use Rattle.meaning.specs.Closed.{LoopClass, isClosed, loopClass}
 
 pub record LoopReport : Type 0 where
   pub offset : ℕ
-  pub closed : Bool
+  pub class : LoopClass
   pub ceiling : ℕ
 
 module _ (parameters : List ℤ) where
@@ -23,7 +23,7 @@ module _ (parameters : List ℤ) where
     loopReports empty ranges at = []
     loopReports (work least most rest) ranges at = loopReports rest ranges (at + recordLength (workRecord least most))
     loopReports (loop l body rest) ranges at =
-        record { offset = at; closed = closed parameters l body ranges; ceiling = ceiling parameters l ranges }
+        record { offset = at; class = loopClass parameters l body ranges; ceiling = ceiling parameters l ranges }
         ∷ (loopReports body (innerRanges parameters l ranges) (at + recordLength (loopRecord l))
         ++ loopReports rest ranges (at + recordLength (loopRecord l) + sheetLength (records body) + recordLength endRecord))
     loopReports (choice arms rest) ranges at =
@@ -46,4 +46,4 @@ firstOverCeiling (r ∷ rs) = orElse (ltb ceilingLimit (r .ceiling)) (r .offset)
 
 unfoldable pub allClosed : List LoopReport → Bool
 allClosed [] = true
-allClosed (r ∷ rs) = r .closed && allClosed rs
+allClosed (r ∷ rs) = isClosed (r .class) && allClosed rs

@@ -5,7 +5,7 @@ use mathlib.Core.Logic.{_⊎_}
 use Prim.Native.Nat.{ℕ, zero, suc, _+_, _≤_}
 use lib.IntN.{ℤ}
 use Rattle.meaning.specs.Tree.{Block, Arms, empty, work, loop, choice, lastArm, arm}
-use Rattle.meaning.specs.Time.{trips, innerIndexes}
+use Rattle.meaning.specs.Time.{entryCost, trips, innerIndexes}
 
 -- trips 0 to n - 1 in turn take so many cycles: each a run of its own of the body (`Body trip`), and one step
 unfoldable pub TripsRun : ℕ → (ℕ → ℕ → Type 0) → ℕ → ℕ → Type 0
@@ -21,7 +21,7 @@ module _ (parameters : List ℤ) where
         (taken after : ℕ) × (least ≤ taken) × (taken ≤ most) × Run rest indexes after × (cycles ≡ taken + after)
     Run (loop l body rest) indexes cycles =
         (taken after : ℕ) × TripsRun (l .step) (λ trip. Run body (innerIndexes parameters l indexes trip)) (trips parameters l indexes) taken
-        × Run rest indexes after × (cycles ≡ l .start + taken + after)
+        × Run rest indexes after × (cycles ≡ entryCost l (trips parameters l indexes) + taken + after)
     Run (choice arms rest) indexes cycles = (taken after : ℕ) × ArmRun arms indexes taken × Run rest indexes after × (cycles ≡ taken + after)
 
     -- a run of one of the arms

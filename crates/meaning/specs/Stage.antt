@@ -8,9 +8,9 @@ use lib.Dec.{ltb}
 use lib.ListN.{length}
 use Rattle.meaning.specs.Record.{Loop, Record, workRecord, loopRecord, endRecord, choiceRecord, nextArmRecord}
 use Rattle.meaning.specs.Tree.{tree}
-use Rattle.meaning.specs.Time.{Bounds, bounds, exactly, _⊕_, hull, trips, innerIndexes}
+use Rattle.meaning.specs.Time.{entryCost, Bounds, bounds, exactly, _⊕_, hull, trips, innerIndexes}
 use Rattle.meaning.specs.Range.{Range, innerRanges}
-use Rattle.meaning.specs.Closed.{closed}
+use Rattle.meaning.specs.Closed.{LoopClass, loopClass}
 use Rattle.meaning.specs.Visits.{visitedTrips}
 use Rattle.meaning.specs.ClosedSum.{loopSum, addTrip}
 
@@ -89,11 +89,12 @@ module _ (parameters : List ℤ) where
   rangesOf (loopFrame l body counter visitedSums enclosing ∷ fs) = innerRanges parameters l (rangesOf fs)
   rangesOf (choiceFrame passedArms enclosing ∷ fs) = rangesOf fs
 
-  -- a loop that makes so many trips: its start is added; its first trip opens with sums 0, or with no trip the stage goes on after its end
+  -- a loop that makes so many trips: what entering it costs is added; its first trip opens with sums 0, or with no trip the stage goes on after
+  -- its end
   unfoldable pub enterLoop : ℕ → Loop → List Record → Bounds → List Frame → ℕ → Step
-  enterLoop zero l rs current fs v = going (state (afterEnd zero rs) (current ⊕ exactly (l .start)) fs v)
+  enterLoop zero l rs current fs v = going (state (afterEnd zero rs) (current ⊕ exactly (entryCost l zero)) fs v)
   enterLoop (suc n) l rs current fs v =
-      beginsVisit (state rs (exactly zero) (loopFrame l rs zero [] (current ⊕ exactly (l .start)) ∷ fs) (suc v))
+      beginsVisit (state rs (exactly zero) (loopFrame l rs zero [] (current ⊕ exactly (entryCost l (suc n))) ∷ fs) (suc v))
 
   -- a loop's end, its trips kept: a further trip opens in the same way, or the loop is left and the sum of its trips goes to what is around it
   unfoldable pub endTrip : Bool → Bounds → Loop → List Record → ℕ → List Bounds → Bounds → List Record → List Frame → ℕ → Step
@@ -116,9 +117,9 @@ module _ (parameters : List ℤ) where
   passRecord (endRecord ∷ rs) current (choiceFrame passedArms enclosing ∷ fs) v = going (state rs (enclosing ⊕ addArm passedArms current) fs v)
   passRecord (endRecord ∷ rs) current (loopFrame l body counter visitedSums enclosing ∷ fs) v =
       let n : ℕ = trips parameters l (indexesOf fs) in
-      let isClosed : Bool = closed parameters l (tree body) (rangesOf fs) in
-      let sums : List Bounds = addTrip isClosed visitedSums (current ⊕ exactly (l .step)) in
-      endTrip (ltb (suc counter) (visitedTrips parameters l (tree body) (rangesOf fs) n)) (loopSum isClosed n sums) l body counter sums enclosing rs fs v
+      let class : LoopClass = loopClass parameters l (tree body) (rangesOf fs) in
+      let sums : List Bounds = addTrip class visitedSums (current ⊕ exactly (l .step)) in
+      endTrip (ltb (suc counter) (visitedTrips parameters l (tree body) (rangesOf fs) n)) (loopSum class n sums) l body counter sums enclosing rs fs v
 
   unfoldable pub pass : State → Step
   pass s = passRecord (s .remaining) (s .current) (s .frames) (s .visits)

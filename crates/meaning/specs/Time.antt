@@ -1,7 +1,7 @@
 -- Trips, and the time trip by trip (equation 1 of document 003): least and most together.
 use mathlib.Core.List.{List, [], _∷_, _++_}
-use Prim.Native.Nat.{ℕ, zero, suc, _+_, _*_, min, max}
-use lib.IntN.{ℤ, pos, sucℤ, _+ℤ_}
+use Prim.Native.Nat.{ℕ, zero, suc, _+_, min, max}
+use lib.IntN.{ℤ, pos, sucℤ, _+ℤ_, _*ℤ_}
 use Rattle.whole.specs.Integer.{atLeastZero, floorDivide}
 use Rattle.meaning.specs.Form.{Form, value, subtract}
 use Rattle.meaning.specs.Record.{Loop}
@@ -10,6 +10,18 @@ use Rattle.meaning.specs.Tree.{Block, Arms, empty, work, loop, choice, l
 -- document 01: D, upper minus lower form
 unfoldable pub difference : Loop → Form
 difference l = subtract (l .upper) (l .lower)
+
+-- what a trip adds to the loop's index: its stride, with its sign
+unfoldable pub signedStride : Loop → ℤ
+signedStride l = pos (l .stride)
+
+-- the stride's size
+unfoldable pub strideSize : Loop → ℕ
+strideSize l = l .stride
+
+-- what entering the loop costs, where it makes so many trips: "Its time is start, plus .. With no trip it is start alone"
+unfoldable pub entryCost : Loop → ℕ → ℕ
+entryCost l trips = l .start
 
 -- max(0, floor(D ÷ stride) + 1)
 unfoldable pub tripCount : ℤ → ℕ → ℕ
@@ -43,23 +55,24 @@ sumOver (suc n) f = sumOver n f ⊕ f n
 module _ (parameters : List ℤ) where
   -- document 01: trips of a loop, at the indexes of the loops around it, outermost first
   unfoldable pub trips : Loop → List ℤ → ℕ
-  trips l indexes = tripCount (value parameters (difference l) indexes) (l .stride)
+  trips l indexes = tripCount (value parameters (difference l) indexes) (strideSize l)
 
   -- the index in a trip, trips counted from 0: it starts at the lower form and grows by the stride
   unfoldable pub indexAt : Loop → List ℤ → ℕ → ℤ
-  indexAt l indexes trip = value parameters (l .lower) indexes +ℤ pos (trip * l .stride)
+  indexAt l indexes trip = value parameters (l .lower) indexes +ℤ pos trip *ℤ signedStride l
 
   -- the indexes inside loop l in one of its trips
   unfoldable pub innerIndexes : Loop → List ℤ → ℕ → List ℤ
   innerIndexes l indexes trip = indexes ++ (indexAt l indexes trip ∷ [])
 
-  -- document 01: time. A loop's is start, plus for each trip the body and one step.
+  -- document 01: time. A loop's is what entering it costs, plus for each trip the body and one step.
   unfoldable mutual
     pub time : Block → List ℤ → Bounds
     time empty indexes = exactly zero
     time (work least most rest) indexes = bounds least most ⊕ time rest indexes
     time (loop l body rest) indexes =
-        exactly (l .start) ⊕ sumOver (trips l indexes) (λ trip. time body (innerIndexes l indexes trip) ⊕ exactly (l .step)) ⊕ time rest indexes
+        exactly (entryCost l (trips l indexes)) ⊕ sumOver (trips l indexes) (λ trip. time body (innerIndexes l indexes trip) ⊕ exactly (l .step))
+        ⊕ time rest indexes
     time (choice arms rest) indexes = armsTime arms indexes ⊕ time rest indexes
 
     pub armsTime : Arms → List ℤ → Bounds

@@ -6,7 +6,8 @@ use lib.Dec.{leb, eqb}
 use lib.ListN.{length, take, drop}
 use Rattle.meaning.specs.Limits.{recordLimit}
 use Rattle.meaning.specs.Form.{Form, isZero, allZero}
-use Rattle.meaning.specs.Record.{Kind, workKind, loopKind, endKind, choiceKind, nextArmKind, kindOf, Loop, Record, workRecord, loopRecord, endRecord, choiceRecord, nextArmRecord, recordLength, sheetBytes, Open}
+use Rattle.meaning.specs.Record.{Kind, workKind, loopKind, endKind, choiceKind, nextArmKind, kindOf}
+use Rattle.meaning.specs.Record.{Loop, Record, workRecord, loopRecord, endRecord, choiceRecord, nextArmRecord, recordLength, sheetBytes, Open}
 use Rattle.meaning.specs.Reader.{Result, ok, refused, require, orRefuse, andThen, Accepted, accept, endOfSheet}
 
 -- a record as the writer takes it: any kind number, and the fields of every kind

@@ -1,198 +1,121 @@
--- The records of a sheet that was read, by their offsets; the end of a record, found by the kinds of the records after it.
-use mathlib.Core.Path.{_≡_, refl, sym, ap, _∙_}
-use mathlib.Core.List.{List, [], _∷_, _++_}
-use mathlib.Core.Bool.{Bool, true, false, cond, _&&_, _||_}
-use Prim.Native.Nat.{ℕ, zero, suc, _+_, _-_, _<_, _≤_}
+-- What the code reads at a record's offset; the end of a record, found by the roles of the records after it.
+use mathlib.Core.Option.{none}
+use mathlib.Core.List.{List, [], _∷_}
+use mathlib.Core.Path.{ap, ap₂, refl, subst, sym, _∙_, _≡_}
+use mathlib.Core.Bool.{cond}
+use Prim.Native.Nat.{_+_, _-_, _<_, _^_, suc, ℕ, _≤_}
 use native.Mathlib.Numerals.{add-one}
 use native.Mathlib.Omega.{arith}
-use borrow.Author.Tests.{ne-eqb, eqb-true}
+use borrow.Author.Tests.{ne-eqb}
+use lib.ListN.{drop, drop-of-length-le, getD, length, take}
+use lib.Seq.{drop-cons, length-take-le}
 use lib.Dec.{eqb}
-use lib.ListN.{length, getD, take, drop, drop-of-length-le}
-use lib.Seq.{drop-cons, take-suc, split-at}
-use Rattle.meaning.specs.Record as M
-use Rattle.meaning.specs.Record.{kindNumber, Record, workRecord, loopRecord, endRecord, choiceRecord, nextArmRecord, kind, recordLength, sheetLength}
-use Rattle.meaning.specs.Reader.{Result, ok, refused, read}
-use Rattle.meaning.proofs.Accepted.{InPlace, read-short, read-in-place}
-use Rattle.meaning.proofs.RecordBytes.{kindOf-kindNumber}
-use Rattle.meaning.proofs.RecordReader.{recordHead, StandsAt, read-stands}
-use Rattle.sheet.specs.View.{lengthOf, lengthOfKind}
-use Rattle.sheet.proofs.Heads.{head-stands}
-use Rattle.nest.specs.Sheets.{recordsIn, recordsOf}
-use Rattle.nest.specs.Rows.{recordsInside}
-use Rattle.nest.specs.Steps.{insideAfter}
-use Rattle.nest.proofs.PlanReports.{sheetLength-append}
+use Rattle.meaning.specs.Record.{Record, bodyLength, endRecord, kindNumber, recordLength, sheetLength, kind}
+use Rattle.meaning.specs.Reader.{bodyAt}
+use Rattle.meaning.specs.Limits.{recordLimit}
+use Rattle.meaning.proofs.RecordReader.{StandsAt}
+use Rattle.records.specs.View.{lengthOfKind}
+use Rattle.sheet.specs.Sheets.{recordsOf}
+use Rattle.sheet.proofs.SheetRecords.{few-records, kind-there, length-by-number, next-offset, record-fits, record-stands, sheetLength-small}
+use Rattle.layout.specs.Rows.{roleNumber, roleOf}
+use Rattle.nest.specs.Known.{RecordAt, RecordBefore}
+use Rattle.nest.specs.Roles.{openAfterRole, roleOfByte}
+use Rattle.nest.specs.Walk.{recordsInside}
+use Rattle.nest.proofs.Roles.{inside-step, open-small, role-of-record}
 
--- ---- the records of a sheet
+-- ---- what the code reads at a record's offset
 
-module _ (sheet : List ℕ) where
-  pub few-records : length (recordsOf sheet) ≤ 64
-  unfolding recordsOf recordsIn
-  few-records = go (read sheet) refl
-    where
-      go : (r : Result (List Record)) → read sheet ≡ r → length (recordsIn r) ≤ 64
-      go (ok rs) e = read-short sheet rs e
-      go (refused number place) e = omega arith
+module _ {sheet : List ℕ} {count n at : ℕ} (g : RecordAt sheet count n at) where
+  abbrev current : Record
+  current = getD (recordsOf sheet) n endRecord
 
-  pub some-read : 0 < length (recordsOf sheet) → read sheet ≡ ok (recordsOf sheet)
-  unfolding recordsOf recordsIn
-  some-read = go (read sheet)
-    where
-      go : (r : Result (List Record)) → 0 < length (recordsIn r) → r ≡ ok (recordsIn r)
-      go (ok rs) h = refl
-      go (refused number place) h = absurd (omega arith)
+  pub present : n < length (recordsOf sheet)
+  present = omega (arith, g .all, g .there)
 
-  pub records-in-place : InPlace [] (recordsOf sheet)
-  unfolding recordsOf recordsIn InPlace
-  records-in-place = go (read sheet) refl
-    where
-      go : (r : Result (List Record)) → read sheet ≡ r → InPlace [] (recordsIn r)
-      go (ok rs) e = read-in-place sheet rs e
-      go (refused number place) e = refl
+  pub kind-read : getD sheet at 0 ≡ kindNumber (kind current)
+  kind-read = ap (λ (m : ℕ). getD sheet m 0) (g .offset) ∙ kind-there sheet n present
 
-  module _ (k : ℕ) (there : k < length (recordsOf sheet)) where
-    abbrev this : Record
-    this = getD (recordsOf sheet) k endRecord
+  pub role-read : {byte role : ℕ} → byte ≡ getD sheet at 0 → role ≡ roleOfByte byte → role ≡ roleNumber (roleOf current)
+  role-read k r = r ∙ ap roleOfByte (k ∙ kind-read) ∙ role-of-record current
 
-    abbrev at : ℕ
-    at = sheetLength (take k (recordsOf sheet))
+  pub stands-there : StandsAt sheet at current
+  stands-there = subst (λ (m : ℕ). StandsAt sheet m current) (sym (g .offset)) (record-stands sheet n present)
 
-    pub parts : recordsOf sheet ≡ take k (recordsOf sheet) ++ (this ∷ drop (suc k) (recordsOf sheet))
-    parts = split-at (recordsOf sheet) k endRecord there
+  pub next-by-body : {body : List ℕ} → body ≡ bodyAt sheet at → at + (1 + length body) ≡ sheetLength (take (n + 1) (recordsOf sheet))
+  unfolding recordLength
+  next-by-body b = omega (arith, ap length b, stands-there .bodyLong, g .offset, next-offset sheet n present)
 
-    pub record-stands : StandsAt sheet at this
-    record-stands = read-stands sheet (take k (recordsOf sheet)) this (drop (suc k) (recordsOf sheet)) (some-read (omega arith) ∙ ap {B = Result (List Record)} ok parts)
+  pub next-by-kind : {byte long : ℕ} → byte ≡ getD sheet at 0 → long ≡ lengthOfKind byte → at + (1 + long) ≡ sheetLength (take (n + 1) (recordsOf sheet))
+  next-by-kind k e =
+      let l = ap (λ (m : ℕ). 1 + m) (e ∙ ap lengthOfKind (k ∙ kind-read)) ∙ length-by-number current in
+      omega (arith, l, g .offset, next-offset sheet n present)
 
-    pub kind-there : getD sheet at 0 ≡ kindNumber (kind this)
-    unfolding recordHead
-    kind-there = sym (head-stands sheet at (recordHead at this) (record-stands .headThere) .number)
+  pub offset-small : at < 2 ^ 16
+  unfolding bodyLength
+  offset-small =
+      let few : length (take n (recordsOf sheet)) ≡ n = length-take-le n (recordsOf sheet) (omega (arith, present)) in
+      omega (arith, g .offset, sheetLength-small (take n (recordsOf sheet)), few, few-records sheet, present)
 
-    -- the record's bytes are in the sheet
-    pub record-fits : at + recordLength this ≤ length sheet
-    unfolding recordHead recordLength
-    record-fits = let s = head-stands sheet at (recordHead at this) (record-stands .headThere) in omega (arith, s .fits)
+  pub next-inside : sheetLength (take (n + 1) (recordsOf sheet)) ≤ length sheet
+  next-inside = omega (arith, record-fits sheet n present, next-offset sheet n present)
 
-    pub longer : take (k + 1) (recordsOf sheet) ≡ take k (recordsOf sheet) ++ (this ∷ [])
-    longer = ap (λ (n : ℕ). take n (recordsOf sheet)) (add-one k) ∙ take-suc (recordsOf sheet) k endRecord there
+-- ---- the search for the end of the record with the number n
 
-    pub next-offset : sheetLength (take (k + 1) (recordsOf sheet)) ≡ at + recordLength this
-    unfolding sheetLength
-    next-offset = ap sheetLength longer ∙ sheetLength-append (take k (recordsOf sheet)) (this ∷ []) ∙ (let e : at + (recordLength this + 0) ≡ at + recordLength this = omega arith in e)
-
-pub length-by-number : (r : Record) → 1 + lengthOfKind (kindNumber (kind r)) ≡ recordLength r
-unfolding lengthOfKind lengthOf recordLength
-length-by-number r = ap (λ o. 1 + lengthOf o) (kindOf-kindNumber (kind r))
-
--- ---- what is open inside
-
-module _ (kind inside : ℕ) where
-  pub opened-loop : kind ≡ 2 → inside + 1 ≡ insideAfter kind inside
-  unfolding insideAfter
-  opened-loop e = rw e
-
-  pub opened-choice : kind ≡ 4 → inside + 1 ≡ insideAfter kind inside
-  unfolding insideAfter
-  opened-choice e = rw e
-
-  pub closed-one : kind ≡ 3 → inside - 1 ≡ insideAfter kind inside
-  unfolding insideAfter
-  closed-one e = rw e
-
-  pub closed-none : kind ≡ 3 → inside ≡ 0 → 0 ≡ insideAfter kind inside
-  unfolding insideAfter
-  closed-none e z = rw (e, z)
-
-  pub opened-none : (kind ≡ 2 → ⊥) → (kind ≡ 4 → ⊥) → (kind ≡ 3 → ⊥) → inside ≡ insideAfter kind inside
-  unfolding insideAfter
-  opened-none a b c = rw (ne-eqb kind 2 a, ne-eqb kind 4 b, ne-eqb kind 3 c)
-
--- a record that does not end what is open is inside
-inside-step : (r : Record) (rs : List Record) (inside : ℕ) → eqb (kindNumber (kind r)) 3 && eqb inside 0 ≡ false →
-    recordsInside inside (r ∷ rs) ≡ suc (recordsInside (insideAfter (kindNumber (kind r)) inside) rs)
-unfolding recordsInside insideAfter kind kindNumber
-inside-step (workRecord least most) rs inside e = refl
-inside-step (loopRecord l) rs inside e = ap (λ (n : ℕ). suc (recordsInside n rs)) (sym (add-one inside))
-inside-step endRecord rs zero e = absurd (let z : _≡_ {A = ℕ} 0 1 = cc in omega arith)
-inside-step endRecord rs (suc inside) e = ap (λ (n : ℕ). suc (recordsInside n rs)) (let m : inside ≡ suc inside - 1 = omega arith in m)
-inside-step choiceRecord rs inside e = ap (λ (n : ℕ). suc (recordsInside n rs)) (sym (add-one inside))
-inside-step nextArmRecord rs inside e = refl
-
--- the one that ends it is not
-inside-stop : (r : Record) (rs : List Record) (inside : ℕ) → eqb (kindNumber (kind r)) 3 && eqb inside 0 ≡ true → recordsInside inside (r ∷ rs) ≡ 0
-unfolding recordsInside kind kindNumber
-inside-stop (workRecord least most) rs inside e = absurd (let z : _≡_ {A = ℕ} 0 1 = cc in omega arith)
-inside-stop (loopRecord l) rs inside e = absurd (let z : _≡_ {A = ℕ} 0 1 = cc in omega arith)
-inside-stop endRecord rs zero e = refl
-inside-stop endRecord rs (suc inside) e = absurd (omega (arith, eqb-true (suc inside) 0 e))
-inside-stop choiceRecord rs inside e = absurd (let z : _≡_ {A = ℕ} 0 1 = cc in omega arith)
-inside-stop nextArmRecord rs inside e = absurd (let z : _≡_ {A = ℕ} 0 1 = cc in omega arith)
-
-inside-after-small : (kind inside : ℕ) → insideAfter kind inside ≤ inside + 1
-unfolding insideAfter
-inside-after-small kind inside = go (eqb kind 2) (eqb kind 4) (eqb kind 3)
-  where
-    go : (a b c : Bool) → cond (a || b) (inside + 1) (cond c (inside - 1) inside) ≤ inside + 1
-    go true b c = omega arith
-    go false true c = omega arith
-    go false false true = omega arith
-    go false false false = omega arith
-
--- ---- the search for the end of record k
-
-pub record Ending (sheet : List ℕ) (count k inside here i : ℕ) : Type 0 where
+-- where `opened` records are open, the one that is searched for among them, before record i, which stands at `here`
+pub record Ending (sheet : List ℕ) (count n opened here i : ℕ) : Type 0 where
   pub all : count ≡ length (recordsOf sheet)
-  pub few : count ≤ 64
   pub so-far : i ≤ count
-  pub small : inside < i
+  pub small : opened ≤ i
+  pub some-open : 0 < opened
   pub offset : here ≡ sheetLength (take i (recordsOf sheet))
-  pub same : k + 1 + recordsInside 0 (drop (k + 1) (recordsOf sheet)) ≡ i + recordsInside inside (drop i (recordsOf sheet))
+  pub same : n + 1 + recordsInside 0 (drop (n + 1) (recordsOf sheet)) ≡ i + recordsInside (opened - 1) (drop i (recordsOf sheet))
 
-pub ending-start : (sheet : List ℕ) (count k at : ℕ) → count ≡ length (recordsOf sheet) → k < count → at ≡ sheetLength (take (k + 1) (recordsOf sheet)) → Ending sheet count k 0 at (k + 1)
-ending-start sheet count k at all less offset = record { all = all; few = omega (arith, few-records sheet); so-far = omega arith; small = omega arith; offset = offset; same = refl }
+pub ending-start : {sheet : List ℕ} {count n next : ℕ} → RecordBefore sheet count n next → Ending sheet count n 1 next (n + 1)
+ending-start g = record { all = g .all; so-far = omega (arith, g .there); small = omega arith; some-open = omega arith; offset = g .offset; same = refl }
 
-module _ (sheet : List ℕ) (count k inside here i : ℕ) (g : Ending sheet count k inside here i) where
+module _ {sheet : List ℕ} {count n opened here i : ℕ} (g : Ending sheet count n opened here i) where
   abbrev rs : List Record
   rs = recordsOf sheet
 
-  pub ending-done : count ≤ i → i ≡ k + 1 + recordsInside 0 (drop (k + 1) rs)
+  pub ending-done : count ≤ i → i ≡ n + 1 + recordsInside 0 (drop (n + 1) rs)
   unfolding recordsInside
   ending-done h =
       let none : drop i rs ≡ [] = drop-of-length-le rs {i = i} (omega (arith, g .all)) in
-      omega (arith, g .same, ap (recordsInside inside) none)
+      omega (arith, g .same, ap (recordsInside (opened - 1)) none)
 
-  module _ (more : i < count) (kind : ℕ) (is : kind ≡ getD sheet here 0) where
-    abbrev next : Record
-    next = getD rs i endRecord
+  pub ending-few : opened ≤ recordLimit
+  ending-few = omega (arith, g .small, g .so-far, g .all, few-records sheet)
 
-    there : i < length rs
-    there = omega (arith, g .all)
+  module _ (more : i < count) where
+    pub ending-at : RecordAt sheet count i here
+    ending-at = record { all = g .all; there = more; offset = g .offset }
 
-    number : kind ≡ kindNumber (M.kind next)
-    number = is ∙ ap (λ (n : ℕ). getD sheet n 0) (g .offset) ∙ kind-there sheet i there
+    first : drop i rs ≡ getD rs i endRecord ∷ drop (i + 1) rs
+    first = drop-cons rs i endRecord (present ending-at) ∙ ap (λ (m : ℕ). getD rs i endRecord ∷ drop m rs) (sym (add-one i))
 
-    first : drop i rs ≡ next ∷ drop (i + 1) rs
-    first = drop-cons rs i endRecord there ∙ ap (λ (n : ℕ). next ∷ drop n rs) (sym (add-one i))
+    module _ {byte role after : ℕ} (k : byte ≡ getD sheet here 0) (r : role ≡ roleOfByte byte) (a : after ≡ openAfterRole role opened) where
+      step : recordsInside (opened - 1) (drop i rs) ≡ cond (eqb after 0) 0 (suc (recordsInside (after - 1) (drop (i + 1) rs)))
+      step =
+          let back : opened - 1 + 1 ≡ opened = omega (arith, g .some-open) in
+          let now : openAfterRole (roleNumber (roleOf (getD rs i endRecord))) (opened - 1 + 1) ≡ after =
+          ap₂ openAfterRole (sym (role-read ending-at k r)) back ∙ sym a in
+          ap (recordsInside (opened - 1)) first ∙ inside-step (getD rs i endRecord) (drop (i + 1) rs) (opened - 1)
+          ∙ ap (λ (m : ℕ). cond (eqb m 0) 0 (suc (recordsInside (m - 1) (drop (i + 1) rs)))) now
 
-    pub ending-found : (b : Bool) → b ≡ eqb kind 3 && eqb inside 0 → b ≡ true → i ≡ k + 1 + recordsInside 0 (drop (k + 1) rs)
-    ending-found b e t =
-        let stop = inside-stop next (drop (i + 1) rs) inside (ap (λ (n : ℕ). eqb n 3 && eqb inside 0) (sym number) ∙ sym e ∙ t) in
-        omega (arith, g .same, ap (recordsInside inside) first, stop)
+      pub ending-found : after ≡ 0 → i ≡ n + 1 + recordsInside 0 (drop (n + 1) rs)
+      ending-found z =
+          let stop : cond (eqb after 0) 0 (suc (recordsInside (after - 1) (drop (i + 1) rs))) ≡ 0 = rw z in
+          omega (arith, g .same, step, stop)
 
-    pub ending-forward : (n : ℕ) → n ≡ lengthOfKind kind → here + (1 + n) ≤ length sheet
-    ending-forward n e =
-        let l = ap (λ (m : ℕ). 1 + m) (e ∙ ap lengthOfKind number) ∙ length-by-number next in
-        omega (arith, record-fits sheet i there, g .offset, l)
-
-    pub ending-next : (b : Bool) → b ≡ eqb kind 3 && eqb inside 0 → b ≡ false → (m : ℕ) → m ≡ insideAfter kind inside → (n : ℕ) → n ≡ lengthOfKind kind →
-        Ending sheet count k m (here + (1 + n)) (i + 1)
-    ending-next b e f m p n q =
-        let step = inside-step next (drop (i + 1) rs) inside (ap (λ (x : ℕ). eqb x 3 && eqb inside 0) (sym number) ∙ sym e ∙ f) in
-        let l = ap (λ (x : ℕ). 1 + x) (q ∙ ap lengthOfKind number) ∙ length-by-number next in
-        let after = ap (λ (x : ℕ). recordsInside x (drop (i + 1) rs)) (p ∙ ap (λ (x : ℕ). insideAfter x inside) number) in
-        record {
-          all = g .all;
-          few = g .few;
-          so-far = omega arith;
-          small = omega (arith, inside-after-small kind inside, p, g .small);
-          offset = omega (arith, g .offset, l, next-offset sheet i there);
-          same = omega (arith, g .same, ap (recordsInside inside) first, step, after);
-        }
+      pub ending-next : (after ≡ 0 → ⊥) → {long : ℕ} → long ≡ lengthOfKind byte → Ending sheet count n after (here + (1 + long)) (i + 1)
+      ending-next z q =
+          let go-on : cond (eqb after 0) 0 (suc (recordsInside (after - 1) (drop (i + 1) rs))) ≡ suc (recordsInside (after - 1) (drop (i + 1) rs)) =
+          rw (ne-eqb after 0 z) in
+          record {
+            all = g .all;
+            so-far = omega arith;
+            small = omega (arith, open-small role opened, a, g .small);
+            some-open = omega arith;
+            offset = next-by-kind ending-at k q;
+            same = omega (arith, g .same, step, go-on);
+          }

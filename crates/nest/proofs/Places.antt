@@ -1,340 +1,108 @@
--- In every state that stages reach, what is open is what the records before the state's place leave open; so the trips, and how many are
--- visited, of each loop that is entered or open follow from its slope.
-use mathlib.Core.Path.{_≡_, refl, sym, ap, ap₂, _∙_, subst}
-use mathlib.Core.List.{List, [], _∷_, _++_, append-assoc}
-use mathlib.Core.Bool.{Bool, true, false, not, cond}
-use mathlib.Core.Option.{Option, none, some}
-use Prim.Native.Nat.{ℕ, zero, suc, _+_, _≤_, min}
+-- Records in place, as the reader accepts them: what is open before each of them, where a loop's body ends, and how many loops there can be.
+use mathlib.Core.Path.{_≡_, refl, sym, ap, subst}
+use mathlib.Core.List.{List, [], _∷_, _++_}
+use mathlib.Core.Bool.{_&&_}
+use mathlib.Core.Option.{some}
+use Prim.Native.Nat.{ℕ, zero, suc, _+_, _*_, _≤_, _<_}
 use native.Mathlib.Omega.{arith}
-use lib.IntN.{ℤ}
-use lib.Dec.{eqb, ltb}
-use lib.ListN.{length, getD, length-map}
-use Rattle.meaning.specs.Form.{value}
-use Rattle.meaning.specs.Record.{Loop, Record, workRecord, loopRecord, endRecord, choiceRecord, nextArmRecord, Open, openLoop, openChoice}
-use Rattle.meaning.specs.Tree.{Block, empty, loop, tree, records, height}
-use Rattle.meaning.specs.Time.{Bounds, exactly, _⊕_, difference, tripCount, trips}
-use Rattle.meaning.specs.Closed.{push, closed}
-use Rattle.meaning.specs.Visits.{visitedTrips}
-use Rattle.meaning.specs.ClosedSum.{loopSum, addTrip}
-use Rattle.meaning.specs.Stage.{Frame, loopFrame, choiceFrame, State, firstState, afterEnd, addArm, Step, going, beginsVisit, atEnd, stuck, stateOf, andOn, indexesOf, rangesOf, enterLoop, endTrip, passRecord, pass, passFrom, stage, stages}
-use Rattle.meaning.proofs.Accepted.{InPlace}
-use Rattle.meaning.proofs.Trees.{afterEnd-records}
-use Rattle.nest.specs.Rows.{opensAfter, numbersAfter}
-use Rattle.nest.specs.Slopes.{Enclosing, nothingOpen, enter, enclosingAfter, Slope, blankSlope, slopesOf}
-use Rattle.nest.proofs.Walks.{leave-enter}
-use Rattle.nest.proofs.Closing.{not-zero, closed-limit, nothing-open}
-use Rattle.nest.proofs.Positions.{opensThrough, numbersThrough, enclosingThrough, opens-records, numbers-records, enclosing-records, in-place-through, loop-in-place, loop-body, open-loops-through}
-use Rattle.nest.proofs.Records.{definedSlope, loop-slope}
-use Rattle.nest.proofs.Affine.{countersOf, enclosingOf, enclosing-ranges, value-affine, slopeD, slopeD-dot}
+use lib.Dec.{ltb, ltb→lt}
+use lib.ListN.{length, drop}
+use Rattle.meaning.specs.Limits.{depthLimit, openLimit}
+use Rattle.meaning.specs.Record.{Loop, Record, workRecord, loopRecord, endRecord, choiceRecord, nextArmRecord, Open, openLoop, openChoice, loopDepth, openAfter}
+use Rattle.meaning.specs.Tree.{Block, Segments, final, beforeEnd, beforeNextArm, segments, records, height}
+use Rattle.meaning.specs.Stage.{afterEnd}
+use Rattle.meaning.proofs.Logic.{T-and, none-is-not-some, test-passed}
+use Rattle.meaning.proofs.Accepted.{InPlace, SegmentsSound, segmentsRecords, segments-sound}
+use Rattle.nest.specs.Walk.{opensAfter, loopsAfter, recordsInside}
+use Rattle.nest.proofs.Walks.{opensThrough, loopsThrough}
 
--- ---- what records leave open
+-- what is open after a record in its place
+pub opens-in-place : (os after : List Open) (r : Record) → openAfter os r ≡ some after → opensAfter os r ≡ after
+unfolding openAfter opensAfter
+opens-in-place os after (workRecord least most) e = cc
+opens-in-place os after (loopRecord l) e = test-passed (ltb (loopDepth os) depthLimit && ltb (length os) openLimit) (openLoop ∷ os) after e .1
+opens-in-place [] after endRecord e = none-is-not-some e
+opens-in-place (o ∷ os) after endRecord e = cc
+opens-in-place os after choiceRecord e = test-passed (ltb (length os) openLimit) (openChoice ∷ os) after e .1
+opens-in-place [] after nextArmRecord e = none-is-not-some e
+opens-in-place (openLoop ∷ os) after nextArmRecord e = none-is-not-some e
+opens-in-place (openChoice ∷ os) after nextArmRecord e = cc
 
-opens-append : (xs ys : List Record) (os : List Open) → opensThrough os (xs ++ ys) ≡ opensThrough (opensThrough os xs) ys
+-- what follows a record in its place
+pub in-place-next : (r : Record) (rs : List Record) (os : List Open) → InPlace os (r ∷ rs) → InPlace (opensAfter os r) rs
+unfolding InPlace
+in-place-next r rs os h = subst (λ us. InPlace us rs) (sym (opens-in-place os (h .0) r (h .1))) (h .3)
+
+-- what follows records in place is in place where they leave open what the walk says
+pub in-place-through : (xs ys : List Record) (os : List Open) → InPlace os (xs ++ ys) → InPlace (opensThrough os xs) ys
+unfolding InPlace opensThrough
+in-place-through [] ys os h = h
+in-place-through (x ∷ xs) ys os h = in-place-through xs ys (opensAfter os x) (in-place-next x (xs ++ ys) os h)
+
+-- a loop in its place: fewer loops than depthLimit and fewer records than openLimit are open before it
+pub loop-in-place : (l : Loop) (rs : List Record) (os : List Open) → InPlace os (loopRecord l ∷ rs) → (loopDepth os < depthLimit) × (length os < openLimit)
+unfolding InPlace openAfter
+loop-in-place l rs os h =
+    let passed = test-passed (ltb (loopDepth os) depthLimit && ltb (length os) openLimit) (openLoop ∷ os) (h .0) (h .1) .0 in
+    let tests = T-and (ltb (loopDepth os) depthLimit) (ltb (length os) openLimit) passed in
+    (ltb→lt (loopDepth os) depthLimit (tests .0), ltb→lt (length os) openLimit (tests .1))
+
+pub choice-in-place : (rs : List Record) (os : List Open) → InPlace os (choiceRecord ∷ rs) → length os < openLimit
+unfolding InPlace openAfter
+choice-in-place rs os h = ltb→lt (length os) openLimit (test-passed (ltb (length os) openLimit) (openChoice ∷ os) (h .0) (h .1) .0)
+
+-- the body of a loop with d loops around it, among the records after the loop's own
+pub record LoopBody (d : ℕ) (rs : List Record) : Type 0 where
+  pub body : Block
+  pub following : List Record
+  pub split : rs ≡ records body ++ (endRecord ∷ following)
+  pub shallow : height body + suc d ≤ depthLimit
+
+pub loop-body : (l : Loop) (rs : List Record) (os : List Open) → InPlace os (loopRecord l ∷ rs) → LoopBody (loopDepth os) rs
+unfolding InPlace opensAfter loopDepth
+loop-body l rs os h =
+    let sound = segments-sound (openLoop ∷ os) rs (loop-in-place l rs os h .0) (in-place-next (loopRecord l) rs os h) in
+    found (segments rs) (sound .0) (sound .1)
+  where
+    found : (s : Segments) → SegmentsSound (openLoop ∷ os) s → segmentsRecords s ≡ rs → LoopBody (loopDepth os) rs
+    found (final b) g e = unfold SegmentsSound in absurd g
+    found (beforeEnd b s) g e = unfold SegmentsSound segmentsRecords loopDepth in record { body = b; following = segmentsRecords s; split = sym e; shallow = g .1 }
+    found (beforeNextArm b s) g e = unfold SegmentsSound in absurd g
+
+-- no more records are open than the limit allows
+pub opens-few : (xs ys : List Record) (os : List Open) → InPlace os (xs ++ ys) → length os ≤ openLimit → length (opensThrough os xs) ≤ openLimit
 unfolding opensThrough
-opens-append [] ys os = refl
-opens-append (x ∷ xs) ys os = opens-append xs ys (opensAfter os x)
+opens-few [] ys os h few = few
+opens-few (x ∷ xs) ys os h few = opens-few xs ys (opensAfter os x) (in-place-next x (xs ++ ys) os h) (one x (xs ++ ys) os h few)
+  where
+    one : (r : Record) (rs : List Record) (os : List Open) → InPlace os (r ∷ rs) → length os ≤ openLimit → length (opensAfter os r) ≤ openLimit
+    one (workRecord least most) rs os h few = unfold opensAfter in few
+    one (loopRecord l) rs os h few = unfold opensAfter in loop-in-place l rs os h .1
+    one endRecord rs [] h few = unfold opensAfter in few
+    one endRecord rs (o ∷ os) h few = unfold opensAfter in omega arith
+    one choiceRecord rs os h few = unfold opensAfter in choice-in-place rs os h
+    one nextArmRecord rs os h few = unfold opensAfter in few
 
-numbers-append : (xs ys : List Record) (k : ℕ) (ns : List ℕ) → numbersThrough k ns (xs ++ ys) ≡ numbersThrough (k + length xs) (numbersThrough k ns xs) ys
-unfolding numbersThrough
-numbers-append [] ys k ns = ap (λ (n : ℕ). numbersThrough n ns ys) (let e : k ≡ k + 0 = omega arith in e)
-numbers-append (x ∷ xs) ys k ns =
-    numbers-append xs ys (suc k) (numbersAfter k ns x)
-    ∙ ap (λ (n : ℕ). numbersThrough n (numbersThrough (suc k) (numbersAfter k ns x) xs) ys) (let e : suc k + length xs ≡ k + suc (length xs) = omega arith in e)
+-- each loop has an end
+pub loops-few : (rs : List Record) (os : List Open) (n : ℕ) → InPlace os rs → 2 * loopsThrough n rs + length os ≤ 2 * n + length rs
+unfolding InPlace loopsThrough loopsAfter opensAfter openAfter
+loops-few [] os n h = omega (arith, ap length h)
+loops-few (workRecord least most ∷ rs) os n h = omega (arith, loops-few rs os n (in-place-next (workRecord least most) rs os h))
+loops-few (loopRecord l ∷ rs) os n h = omega (arith, loops-few rs (openLoop ∷ os) (suc n) (in-place-next (loopRecord l) rs os h))
+loops-few (endRecord ∷ rs) [] n h = absurd (none-is-not-some (h .1))
+loops-few (endRecord ∷ rs) (o ∷ os) n h = omega (arith, loops-few rs os n (in-place-next endRecord rs (o ∷ os) h))
+loops-few (choiceRecord ∷ rs) os n h = omega (arith, loops-few rs (openChoice ∷ os) n (in-place-next choiceRecord rs os h))
+loops-few (nextArmRecord ∷ rs) os n h = omega (arith, loops-few rs os n (in-place-next nextArmRecord rs os h))
 
-enclosing-append : (ps : List ℤ) (xs ys : List Record) (os : List Open) (e : Enclosing) →
-    enclosingThrough ps os e (xs ++ ys) ≡ enclosingThrough ps (opensThrough os xs) (enclosingThrough ps os e xs) ys
-unfolding enclosingThrough opensThrough
-enclosing-append ps [] ys os e = refl
-enclosing-append ps (x ∷ xs) ys os e = enclosing-append ps xs ys (opensAfter os x) (enclosingAfter ps os e x)
-
--- what frames have open
-unfoldable pub opensOf : List Frame → List Open
-opensOf [] = []
-opensOf (loopFrame l body counter visitedSums enclosing ∷ fs) = openLoop ∷ opensOf fs
-opensOf (choiceFrame passedArms enclosing ∷ fs) = openChoice ∷ opensOf fs
-
--- how many of n trips are visited, by the limit: 0 is that of a walked loop
-visited-limit : (c : Bool) (h n : ℕ) → cond c (min n (suc h)) n ≡ cond (eqb (cond c (suc h) 0) 0) n (min n (cond c (suc h) 0))
-visited-limit true h n = ap (λ b. cond b n (min n (suc h))) (sym (not-zero (suc h) (omega arith)))
-visited-limit false h n = refl
-
-module _ (ps : List ℤ) where
-  -- the records leave os with the numbers ns and the loops e open
-  pub record Leaves (before : List Record) (os : List Open) (ns : List ℕ) (e : Enclosing) : Type 0 where
-    pub opensAre : opensThrough [] before ≡ os
-    pub numbersAre : numbersThrough 0 [] before ≡ ns
-    pub loopsAre : enclosingThrough ps [] nothingOpen before ≡ e
-
-  -- with further records
-  leaves-append : (xs ys : List Record) (os : List Open) (ns : List ℕ) (e : Enclosing) → Leaves xs os ns e →
-      Leaves (xs ++ ys) (opensThrough os ys) (numbersThrough (length xs) ns ys) (enclosingThrough ps os e ys)
-  leaves-append xs ys os ns e h = record {
-    opensAre = opens-append xs ys [] ∙ ap (λ us. opensThrough us ys) (h .opensAre);
-    numbersAre = numbers-append xs ys 0 [] ∙ ap₂ (λ (k : ℕ) (ms : List ℕ). numbersThrough k ms ys) (let z : 0 + length xs ≡ length xs = omega arith in z) (h .numbersAre);
-    loopsAre = enclosing-append ps xs ys [] nothingOpen ∙ ap₂ (λ us f. enclosingThrough ps us f ys) (h .opensAre) (h .loopsAre);
-  }
-
-  leaves-next : (xs : List Record) (r : Record) (os : List Open) (ns : List ℕ) (e : Enclosing) → Leaves xs os ns e →
-      Leaves (xs ++ (r ∷ [])) (opensAfter os r) (numbersAfter (length xs) ns r) (enclosingAfter ps os e r)
-  unfolding opensThrough numbersThrough enclosingThrough
-  leaves-next xs r os ns e h = leaves-append xs (r ∷ []) os ns e h
-
-  leaves-equal : {xs : List Record} {os us : List Open} {ns ms : List ℕ} {e f : Enclosing} → os ≡ us → ns ≡ ms → e ≡ f → Leaves xs os ns e → Leaves xs us ms f
-  leaves-equal p q r h = record { opensAre = h .opensAre ∙ p; numbersAre = h .numbersAre ∙ q; loopsAre = h .loopsAre ∙ r }
-
-  -- ---- the numbers of a loop, from the slope of its record
-
-  -- with fs open around it, from the slope of its record
-  pub record FromSlope (l : Loop) (body : List Record) (fs : List Frame) (s : Slope) : Type 0 where
-    pub strideIs : s .stride ≡ l .stride
-    pub valueIs : value ps (difference l) (indexesOf ps fs) ≡ slopeD s (countersOf fs)
-    pub tripsAre : trips ps l (indexesOf ps fs) ≡ tripCount (slopeD s (countersOf fs)) (s .stride)
-    pub closedIs : closed ps l (tree body) (rangesOf ps fs) ≡ not (eqb (s .limit) 0)
-    pub visitedAre : (n : ℕ) → visitedTrips ps l (tree body) (rangesOf ps fs) n ≡ cond (eqb (s .limit) 0) n (min n (s .limit))
-
-  defined-from-slope : (l : Loop) (body : List Record) (fs : List Frame) → length (enclosingOf ps fs .pushes) ≤ 3 →
-      FromSlope l body fs (definedSlope ps l body (enclosingOf ps fs))
-  unfolding definedSlope visitedTrips trips
-  defined-from-slope l body fs few =
-      let e : Enclosing = enclosingOf ps fs in
-      let c : Bool = closed ps l (tree body) (e .ranges) in
-      let same = enclosing-ranges ps fs in
-      let d : value ps (difference l) (indexesOf ps fs) ≡ slopeD (definedSlope ps l body e) (countersOf fs) =
-      value-affine ps (difference l) fs
-      ∙ sym (slopeD-dot (definedSlope ps l body e) (countersOf fs) (let k = length-map (e .pushes) (push (difference l)) in omega arith)) in
-      record {
-        strideIs = refl;
-        valueIs = d;
-        tripsAre = ap (λ (x : ℤ). tripCount x (l .stride)) d;
-        closedIs = ap (closed ps l (tree body)) (sym same) ∙ sym (closed-limit c (height (tree body)));
-        visitedAre = λ n. ap (λ r. cond (closed ps l (tree body) r) (min n (suc (height (tree body)))) n) (sym same) ∙ visited-limit c (height (tree body)) n;
-      }
-
-  -- ---- states in their place
-
-  module _ (rs : List Record) where
-    -- record r of the sheet, with the number n before the records `after`, where os with the numbers ns and the loops e are open
-    pub record Stands (r : Record) (after : List Record) (n : ℕ) (os : List Open) (ns : List ℕ) (e : Enclosing) : Type 0 where
-      pub outer : List Record
-      pub number : length outer ≡ n
-      pub split : rs ≡ outer ++ (r ∷ after)
-      pub leaves : Leaves outer os ns e
-
-    -- the frames are those of open records with these numbers
-    unfoldable pub Framed : List Frame → List ℕ → Type 0
-    Framed [] [] = Unit {0}
-    Framed [] (n ∷ ns) = ⊥
-    Framed (loopFrame l body counter visitedSums enclosing ∷ fs) [] = ⊥
-    Framed (choiceFrame passedArms enclosing ∷ fs) [] = ⊥
-    Framed (loopFrame l body counter visitedSums enclosing ∷ fs) (n ∷ ns) = Stands (loopRecord l) body n (opensOf fs) ns (enclosingOf ps fs) × Framed fs ns
-    Framed (choiceFrame passedArms enclosing ∷ fs) (n ∷ ns) = (after : List Record) × Stands choiceRecord after n (opensOf fs) ns (enclosingOf ps fs) × Framed fs ns
-
-    -- where `remaining` is still to pass and fs is open
-    pub record PlacedAt (remaining : List Record) (fs : List Frame) : Type 0 where
-      pub before : List Record
-      pub numbers : List ℕ
-      pub split : rs ≡ before ++ remaining
-      pub leaves : Leaves before (opensOf fs) numbers (enclosingOf ps fs)
-      pub framed : Framed fs numbers
-
-    abbrev pub Placed : State → Type 0
-    Placed s = PlacedAt (s .remaining) (s .frames)
-
-    -- one record further
-    further : (xs : List Record) (r : Record) (ys : List Record) → rs ≡ xs ++ (r ∷ ys) → rs ≡ (xs ++ (r ∷ [])) ++ ys
-    further xs r ys e = e ∙ sym (append-assoc xs (r ∷ []) ys)
-
-    -- a record that opens and ends nothing
-    placed-same : (r : Record) (ys : List Record) (fs : List Frame) → ((os : List Open) (e : Enclosing) →
-        (opensAfter os r ≡ os) × (enclosingAfter ps os e r ≡ e)) → ((k : ℕ) (ns : List ℕ) → numbersAfter k ns r ≡ ns) →
-        PlacedAt (r ∷ ys) fs → PlacedAt ys fs
-    placed-same r ys fs same numbered h = record {
-      before = h .before ++ (r ∷ []);
-      numbers = h .numbers;
-      split = further (h .before) r ys (h .split);
-      leaves = leaves-equal (same (opensOf fs) (enclosingOf ps fs) .0) (numbered (length (h .before)) (h .numbers)) (same (opensOf fs) (enclosingOf ps fs) .1)
-          (leaves-next (h .before) r (opensOf fs) (h .numbers) (enclosingOf ps fs) (h .leaves));
-      framed = h .framed;
-    }
-
-    -- a trip opens, an arm opens
-    placed-loop : (l : Loop) (ys : List Record) (fs : List Frame) (counter : ℕ) (sums : List Bounds) (around : Bounds) → PlacedAt (loopRecord l ∷ ys) fs →
-        PlacedAt ys (loopFrame l ys counter sums around ∷ fs)
-    unfolding Framed opensOf enclosingOf opensAfter numbersAfter enclosingAfter
-    placed-loop l ys fs counter sums around h = record {
-      before = h .before ++ (loopRecord l ∷ []);
-      numbers = length (h .before) ∷ h .numbers;
-      split = further (h .before) (loopRecord l) ys (h .split);
-      leaves = leaves-next (h .before) (loopRecord l) (opensOf fs) (h .numbers) (enclosingOf ps fs) (h .leaves);
-      framed = (record { outer = h .before; number = refl; split = h .split; leaves = h .leaves }, h .framed);
-    }
-
-    placed-choice : (ys : List Record) (fs : List Frame) (passedArms : Option Bounds) (around : Bounds) → PlacedAt (choiceRecord ∷ ys) fs →
-        PlacedAt ys (choiceFrame passedArms around ∷ fs)
-    unfolding Framed opensOf enclosingOf opensAfter numbersAfter enclosingAfter
-    placed-choice ys fs passedArms around h = record {
-      before = h .before ++ (choiceRecord ∷ []);
-      numbers = length (h .before) ∷ h .numbers;
-      split = further (h .before) choiceRecord ys (h .split);
-      leaves = leaves-next (h .before) choiceRecord (opensOf fs) (h .numbers) (enclosingOf ps fs) (h .leaves);
-      framed = (ys, record { outer = h .before; number = refl; split = h .split; leaves = h .leaves }, h .framed);
-    }
-
-    -- a loop without a trip is passed over
-    placed-past : (l : Loop) (ys : List Record) (fs : List Frame) → InPlace [] rs → PlacedAt (loopRecord l ∷ ys) fs → PlacedAt (afterEnd zero ys) fs
-    unfolding afterEnd records
-    placed-past l ys fs placed h =
-        let os : List Open = opensOf fs in
-        let e : Enclosing = enclosingOf ps fs in
-        let here = in-place-through (h .before) (loopRecord l ∷ ys) [] (subst (InPlace []) (h .split) placed) in
-        let found = loop-body l ys (opensThrough [] (h .before)) here in
-        let q : List Record = found .following in
-        let whole : Block = loop l (found .body) empty in
-        let rest : afterEnd zero ys ≡ q = ap (afterEnd zero) (found .split) ∙ afterEnd-records (found .body) zero (endRecord ∷ q) in
-        let joined : loopRecord l ∷ ys ≡ records whole ++ q = ap {B = List Record} (λ xs. loopRecord l ∷ xs) (found .split ∙ sym (append-assoc (records (found .body)) (endRecord ∷ []) q)) in
-        record {
-          before = h .before ++ records whole;
-          numbers = h .numbers;
-          split = h .split ∙ ap (λ (xs : List Record). h .before ++ xs) joined ∙ sym (append-assoc (h .before) (records whole) q) ∙ ap (λ (xs : List Record). (h .before ++ records whole) ++ xs) (sym rest);
-          leaves = leaves-equal
-              (opens-records whole os) (numbers-records whole (length (h .before)) (h .numbers)) (enclosing-records ps whole os e) (leaves-append (h .before) (records whole) os (h .numbers) e (h .leaves));
-          framed = h .framed;
-        }
-
-    -- what is open is left at its end
-    placed-left-choice : (ys : List Record) (fs : List Frame) (passedArms : Option Bounds) (around : Bounds) →
-        PlacedAt (endRecord ∷ ys) (choiceFrame passedArms around ∷ fs) → PlacedAt ys fs
-    placed-left-choice ys fs passedArms around h = go (h .numbers) (h .leaves) (h .framed)
-      where
-        go : (ns : List ℕ) → Leaves (h .before) (opensOf (choiceFrame passedArms around ∷ fs)) ns (enclosingOf ps (choiceFrame passedArms around ∷ fs)) →
-            Framed (choiceFrame passedArms around ∷ fs) ns → PlacedAt ys fs
-        go [] leaves framed = unfold Framed in absurd framed
-        go (n ∷ ns) leaves framed = unfold Framed opensOf enclosingOf opensAfter numbersAfter enclosingAfter in record {
-          before = h .before ++ (endRecord ∷ []);
-          numbers = ns;
-          split = further (h .before) endRecord ys (h .split);
-          leaves = leaves-next (h .before) endRecord (openChoice ∷ opensOf fs) (n ∷ ns) (enclosingOf ps fs) leaves;
-          framed = framed .2;
-        }
-
-    placed-left-loop : (ys : List Record) (fs : List Frame) (l : Loop) (body : List Record) (counter : ℕ) (sums : List Bounds) (around : Bounds) →
-        PlacedAt (endRecord ∷ ys) (loopFrame l body counter sums around ∷ fs) → PlacedAt ys fs
-    placed-left-loop ys fs l body counter sums around h = go (h .numbers) (h .leaves) (h .framed)
-      where
-        go : (ns : List ℕ) →
-            Leaves (h .before) (opensOf (loopFrame l body counter sums around ∷ fs)) ns (enclosingOf ps (loopFrame l body counter sums around ∷ fs)) → Framed (loopFrame l body counter sums around ∷ fs) ns → PlacedAt ys fs
-        go [] leaves framed = unfold Framed in absurd framed
-        go (n ∷ ns) leaves framed = unfold Framed opensOf enclosingOf opensAfter numbersAfter enclosingAfter in record {
-          before = h .before ++ (endRecord ∷ []);
-          numbers = ns;
-          split = further (h .before) endRecord ys (h .split);
-          leaves = leaves-equal refl refl (leave-enter ps l (enclosingOf ps fs))
-              (leaves-next (h .before) endRecord (openLoop ∷ opensOf fs) (n ∷ ns) (enter ps l (enclosingOf ps fs)) leaves);
-          framed = framed .1;
-        }
-
-    -- a further trip opens
-    placed-again : (ys : List Record) (fs : List Frame) (l : Loop) (body : List Record) (counter again : ℕ) (sums more : List Bounds) (around : Bounds) →
-        PlacedAt (endRecord ∷ ys) (loopFrame l body counter sums around ∷ fs) → PlacedAt body (loopFrame l body again more around ∷ fs)
-    placed-again ys fs l body counter again sums more around h = go (h .numbers) (h .framed)
-      where
-        go : (ns : List ℕ) → Framed (loopFrame l body counter sums around ∷ fs) ns → PlacedAt body (loopFrame l body again more around ∷ fs)
-        go [] framed = unfold Framed in absurd framed
-        go (n ∷ ns) framed = unfold Framed opensOf enclosingOf opensAfter numbersAfter enclosingAfter in (
-            let s = framed .0 in
-            record {
-              before = s .outer ++ (loopRecord l ∷ []);
-              numbers = n ∷ ns;
-              split = further (s .outer) (loopRecord l) body (s .split);
-              leaves = leaves-equal refl (ap {B = List ℕ} (λ m. m ∷ ns) (s .number)) refl
-                  (leaves-next (s .outer) (loopRecord l) (opensOf fs) ns (enclosingOf ps fs) (s .leaves));
-              framed = framed;
-            })
-
-    -- the next arm opens
-    placed-arm : (ys : List Record) (fs : List Frame) (passedArms more : Option Bounds) (around : Bounds) → PlacedAt ys (choiceFrame passedArms around ∷ fs) →
-        PlacedAt ys (choiceFrame more around ∷ fs)
-    placed-arm ys fs passedArms more around h = go (h .numbers) (h .leaves) (h .framed)
-      where
-        go : (ns : List ℕ) → Leaves (h .before) (opensOf (choiceFrame passedArms around ∷ fs)) ns (enclosingOf ps (choiceFrame passedArms around ∷ fs)) →
-            Framed (choiceFrame passedArms around ∷ fs) ns → PlacedAt ys (choiceFrame more around ∷ fs)
-        go [] leaves framed = unfold Framed in absurd framed
-        go (n ∷ ns) leaves framed = unfold Framed opensOf enclosingOf in record { before = h .before; numbers = n ∷ ns; split = h .split; leaves = leaves; framed = framed }
-
-    -- the slope of record n
-    abbrev pub slopeNumbered : ℕ → Slope
-    slopeNumbered n = getD (slopesOf ps rs) n blankSlope
-
-    -- ---- passing keeps states in their place
-
-    module _ (placed : InPlace [] rs) where
-      placed-enter : (n : ℕ) (l : Loop) (ys : List Record) (current : Bounds) (fs : List Frame) (v : ℕ) → PlacedAt (loopRecord l ∷ ys) fs →
-          Placed (stateOf (enterLoop ps n l ys current fs v))
-      unfolding enterLoop stateOf
-      placed-enter zero l ys current fs v h = placed-past l ys fs placed h
-      placed-enter (suc n) l ys current fs v h = placed-loop l ys fs zero [] (current ⊕ exactly (l .start)) h
-
-      placed-trip : (b : Bool) (sum : Bounds) (l : Loop) (body : List Record) (counter : ℕ) (old sums : List Bounds) (around : Bounds) (ys : List Record) (fs : List Frame) (v : ℕ) →
-          PlacedAt (endRecord ∷ ys) (loopFrame l body counter old around ∷ fs) → Placed (stateOf (endTrip ps b sum l body counter sums around ys fs v))
-      unfolding endTrip stateOf
-      placed-trip true sum l body counter old sums around ys fs v h = placed-again ys fs l body counter (suc counter) old sums around h
-      placed-trip false sum l body counter old sums around ys fs v h = placed-left-loop ys fs l body counter old around h
-
-      pub placed-record : (remaining : List Record) (current : Bounds) (fs : List Frame) (v : ℕ) → PlacedAt remaining fs →
-          Placed (stateOf (passRecord ps remaining current fs v))
-      unfolding passRecord stateOf opensAfter numbersAfter enclosingAfter
-      placed-record [] current fs v h = h
-      placed-record (workRecord least most ∷ ys) current fs v h = placed-same (workRecord least most) ys fs (λ os e. (refl, refl)) (λ k ns. refl) h
-      placed-record (loopRecord l ∷ ys) current fs v h = placed-enter (trips ps l (indexesOf ps fs)) l ys current fs v h
-      placed-record (choiceRecord ∷ ys) current fs v h = placed-choice ys fs none current h
-      placed-record (nextArmRecord ∷ ys) current [] v h = h
-      placed-record (nextArmRecord ∷ ys) current (loopFrame l body counter visitedSums enclosing ∷ fs) v h = h
-      placed-record (nextArmRecord ∷ ys) current (choiceFrame passedArms enclosing ∷ fs) v h =
-          placed-arm ys fs passedArms (some (addArm passedArms current)) enclosing (placed-same nextArmRecord ys (choiceFrame passedArms enclosing ∷ fs) (λ os e. (refl, refl)) (λ k ns. refl) h)
-      placed-record (endRecord ∷ ys) current [] v h = h
-      placed-record (endRecord ∷ ys) current (choiceFrame passedArms enclosing ∷ fs) v h = placed-left-choice ys fs passedArms enclosing h
-      placed-record (endRecord ∷ ys) current (loopFrame l body counter visitedSums enclosing ∷ fs) v h =
-          let n : ℕ = trips ps l (indexesOf ps fs) in
-          let isClosed : Bool = closed ps l (tree body) (rangesOf ps fs) in
-          let sums : List Bounds = addTrip isClosed visitedSums (current ⊕ exactly (l .step)) in
-          placed-trip (ltb (suc counter) (visitedTrips ps l (tree body) (rangesOf ps fs) n)) (loopSum isClosed n sums) l body counter visitedSums sums enclosing ys fs v h
-
-      placed-from : (left : ℕ) (s : State) → Placed s → Placed (stateOf (passFrom ps left s))
-      unfolding passFrom stateOf
-      placed-from zero s h = h
-      placed-from (suc left) s h = go (pass ps s) (unfold pass in placed-record (s .remaining) (s .current) (s .frames) (s .visits) h) (λ t. placed-from left t)
-        where
-          go : (step : Step) → Placed (stateOf step) → ((t : State) → Placed t → Placed (stateOf (passFrom ps left t))) →
-              Placed (stateOf (andOn (λ t. passFrom ps left t) step))
-          go (going t) p on = unfold andOn in on t p
-          go (beginsVisit t) p on = unfold andOn in p
-          go (atEnd t) p on = unfold andOn in p
-          go (stuck t) p on = unfold andOn in p
-
-      pub placed-stage : (s : State) → Placed s → Placed (stateOf (stage ps s))
-      unfolding stage
-      placed-stage s h = placed-from (suc (length (s .remaining))) s h
-
-      pub placed-first : Placed (firstState rs)
-      unfolding firstState Framed opensOf enclosingOf opensThrough numbersThrough enclosingThrough
-      placed-first = record { before = []; numbers = []; split = refl; leaves = record { opensAre = refl; numbersAre = refl; loopsAre = refl }; framed = tt }
-
-      -- every state that stages reach from the sheet's start is in its place
-      pub placed-stages : (n : ℕ) → Placed (stages ps n (firstState rs))
-      unfolding stages
-      placed-stages zero = placed-first
-      placed-stages (suc n) = placed-stage (stages ps n (firstState rs)) (placed-stages n)
-
-      -- the numbers of a loop that is entered or open
-      pub from-slope : (l : Loop) (body : List Record) (n : ℕ) (fs : List Frame) (ns : List ℕ) →
-          Stands (loopRecord l) body n (opensOf fs) ns (enclosingOf ps fs) → FromSlope l body fs (slopeNumbered n)
-      from-slope l body n fs ns h =
-          let sheet = subst (InPlace []) (h .split) placed in
-          let here = in-place-through (h .outer) (loopRecord l ∷ body) [] sheet in
-          let shallow = loop-in-place l body (opensThrough [] (h .outer)) here .0 in
-          let counted = open-loops-through ps (h .outer) [] nothingOpen nothing-open .pushCount in
-          let few : length (enclosingOf ps fs .pushes) ≤ 3 = subst (λ (e : Enclosing). length (e .pushes) ≤ 3) (h .leaves .loopsAre) (omega arith) in
-          let found : slopeNumbered n ≡ definedSlope ps l body (enclosingOf ps fs) =
-          ap₂ (λ xs (m : ℕ). getD (slopesOf ps xs) m blankSlope) (h .split) (sym (h .number))
-          ∙ loop-slope ps (h .outer) l body blankSlope sheet ∙ ap (definedSlope ps l body) (h .leaves .loopsAre) in
-          subst (FromSlope l body fs) (sym found) (defined-from-slope l body fs few)
+-- what is open ends: the record found is an end, before what the definition goes on with
+pub end-in-place : (rs : List Record) (os : List Open) (inside : ℕ) → InPlace os rs → inside < length os →
+    drop (recordsInside inside rs) rs ≡ endRecord ∷ afterEnd inside rs
+unfolding InPlace recordsInside afterEnd opensAfter
+end-in-place [] os inside h below = absurd (omega (arith, ap length h))
+end-in-place (workRecord least most ∷ rs) os inside h below = end-in-place rs os inside (in-place-next (workRecord least most) rs os h) below
+end-in-place (loopRecord l ∷ rs) os inside h below = end-in-place rs (openLoop ∷ os) (suc inside) (in-place-next (loopRecord l) rs os h) (omega arith)
+end-in-place (endRecord ∷ rs) os zero h below = refl
+end-in-place (endRecord ∷ rs) [] (suc inside) h below = absurd (omega arith)
+end-in-place (endRecord ∷ rs) (o ∷ os) (suc inside) h below = end-in-place rs os inside (in-place-next endRecord rs (o ∷ os) h) (omega arith)
+end-in-place (choiceRecord ∷ rs) os inside h below = end-in-place rs (openChoice ∷ os) (suc inside) (in-place-next choiceRecord rs os h) (omega arith)
+end-in-place (nextArmRecord ∷ rs) os inside h below = end-in-place rs os inside (in-place-next nextArmRecord rs os h) below

@@ -1,349 +1,276 @@
 -- The walk that lays the rows: what it carries from one record to the next, and the rows laid so far.
-use mathlib.Core.Path.{_≡_, refl, sym, ap, ap₂, _∙_, subst}
+use Rattle.meaning.specs.Tree.{empty}
 use mathlib.Core.List.{List, [], _∷_, _++_}
-use mathlib.Core.Option.{some}
-use Prim.Native.Nat.{ℕ, suc, _+_, _*_, _-_, _<_, _≤_}
-use native.Mathlib.Numerals.{add-one}
+use mathlib.Core.Path.{ap, ap₂, refl, subst, sym, _∙_, _≡_}
+use Prim.Native.Nat.{_%_, _+_, _-_, _<_, _^_, suc, ℕ, _≤_}
 use native.Mathlib.Omega.{arith}
-use lib.ListN.{length, getD, take, drop, replicate, take-append-drop}
-use lib.Seq.{paste, take-all, take-suc, getD-take, length-take-le}
-use Rattle.meaning.specs.Number.{unsigned16}
-use Rattle.meaning.specs.Form.{formAt}
-use Rattle.meaning.proofs.RecordReader.{StandsAt}
-use Rattle.meaning.specs.Record as M
-use Rattle.meaning.specs.Record.{kindNumber, bodyLength, decodeRecord, Record, workRecord, loopRecord, endRecord, choiceRecord, nextArmRecord, recordLength, sheetLength, Open, openAfter}
+use native.Mathlib.Nat.{mod-eq-of-lt}
+use native.Mathlib.Numerals.{add-one}
+use lib.ListN.{drop, getD, length, length-drop, take, take-append-drop}
+use lib.Seq.{getD-take, length-take-le, paste, take-all, take-suc}
+use Rattle.meaning.specs.Record.{decodeRecord, kind, kindNumber, kindOf, loopDepth, loopRecord, openAfter, workRecord, sheetLength, Record, Open, endRecord, choiceRecord, nextArmRecord}
 use Rattle.meaning.specs.Reader.{bodyAt}
+use Rattle.meaning.specs.Limits.{recordLimit}
 use Rattle.meaning.proofs.Accepted.{InPlace}
 use Rattle.meaning.proofs.RecordBytes.{kindOf-kindNumber}
-use Rattle.form.proofs.Fields.{unsigned16-past}
 use Rattle.sheet.specs.declared.nesting.Nesting.{Nesting}
 use Rattle.sheet.specs.Nestings.{nestingOf, openAfterAs, openAfterKind}
-use Rattle.sheet.specs.View.{lengthOfKind}
-use Rattle.nest.specs.Sheets.{recordsOf}
-use Rattle.nest.specs.Rows.{opensAfter, numbersAfter, innermost, recordsInside, firstNumber, secondNumber, endNumber, Row, rowAt, rowsOf, rowNumbers}
-use Rattle.nest.specs.Plan.{joined, padded}
-use Rattle.nest.specs.Steps.{InnersKnown}
-use Rattle.nest.proofs.Positions.{opensThrough, numbersThrough, opens-in-place, in-place-through}
-use Rattle.nest.proofs.Records.{rows-length, row-at}
+use Rattle.records.specs.View.{lengthOfKind}
+use Rattle.sheet.proofs.Openings.{depth-at-most}
+use Rattle.layout.specs.declared.rows.Row.{Row}
+use Rattle.layout.specs.Rows.{firstCost, roleNumber, roleOf, rowNumbers, secondCost, rowFrom, rowWidth}
+use Rattle.layout.specs.Numbers.{joined, storedIn}
+use Rattle.layout.proofs.Reading.{blankRow, row-number, row-next}
+use Rattle.layout.proofs.Storing.{stored-none}
+use Rattle.nest.specs.Known.{AtPosition, InnersKnown, RecordAt}
+use Rattle.nest.specs.Rows.{Position, endNumber, innermost, rowAt, rowsOf, sheetStart, rowsStored}
+use Rattle.nest.specs.Roles.{costBy, costIn, endOfRole, roleOfByte, enclosingAfterRole, loopsAfterRole}
+use Rattle.nest.specs.Walk.{numbersAfter}
+use Rattle.sheet.specs.Sheets.{recordsOf}
 use Rattle.nest.proofs.Openers.{OpenerRows, open-rows}
-use Rattle.nest.proofs.Plans.{rowNumbers-length}
-use Rattle.nest.proofs.Endings.{few-records, records-in-place, parts, record-stands, kind-there, record-fits, longer, next-offset, length-by-number}
-use Rattle.nest.proofs.Flat.{stored, stored-none, stored-padded, stored-length, stored-at, stored-next}
-
--- ---- ends, by the kind's number
-
-module _ (k : ℕ) (rs : List Record) where
-  pub end-of-loop : (r : Record) (n : ℕ) → kindNumber (M.kind r) ≡ 2 → n ≡ k + 1 + recordsInside 0 rs → n ≡ endNumber k r rs
-  unfolding kindNumber M.kind endNumber
-  end-of-loop (workRecord least most) n e h = absurd (omega arith)
-  end-of-loop (loopRecord l) n e h = omega arith
-  end-of-loop endRecord n e h = absurd (omega arith)
-  end-of-loop choiceRecord n e h = absurd (omega arith)
-  end-of-loop nextArmRecord n e h = absurd (omega arith)
-
-  pub end-of-choice : (r : Record) (n : ℕ) → kindNumber (M.kind r) ≡ 4 → n ≡ k + 1 + recordsInside 0 rs → n ≡ endNumber k r rs
-  unfolding kindNumber M.kind endNumber
-  end-of-choice (workRecord least most) n e h = absurd (omega arith)
-  end-of-choice (loopRecord l) n e h = absurd (omega arith)
-  end-of-choice endRecord n e h = absurd (omega arith)
-  end-of-choice choiceRecord n e h = omega arith
-  end-of-choice nextArmRecord n e h = absurd (omega arith)
-
-  pub end-of-none : (r : Record) → (kindNumber (M.kind r) ≡ 2 → ⊥) → (kindNumber (M.kind r) ≡ 4 → ⊥) → 0 ≡ endNumber k r rs
-  unfolding kindNumber M.kind endNumber
-  end-of-none (workRecord least most) a b = refl
-  end-of-none (loopRecord l) a b = absurd (a refl)
-  end-of-none endRecord a b = refl
-  end-of-none choiceRecord a b = absurd (b refl)
-  end-of-none nextArmRecord a b = refl
-
--- ---- the innermost open record
-
-module _ (k : ℕ) (kind inner : ℕ) (x : Record) (ns : List ℕ) (is : kind ≡ kindNumber (M.kind x)) (inmost : inner ≡ innermost ns) where
-  pub inner-loop : kind ≡ 2 → k + 1 ≡ innermost (numbersAfter k ns x)
-  inner-loop e = go x (sym is ∙ e)
-    where
-      go : (r : Record) → kindNumber (M.kind r) ≡ 2 → k + 1 ≡ innermost (numbersAfter k ns r)
-      go (workRecord least most) h = unfold kindNumber M.kind in absurd (omega arith)
-      go (loopRecord l) h = unfold numbersAfter innermost in add-one k
-      go endRecord h = unfold kindNumber M.kind in absurd (omega arith)
-      go choiceRecord h = unfold kindNumber M.kind in absurd (omega arith)
-      go nextArmRecord h = unfold kindNumber M.kind in absurd (omega arith)
-
-  pub inner-choice : kind ≡ 4 → k + 1 ≡ innermost (numbersAfter k ns x)
-  inner-choice e = go x (sym is ∙ e)
-    where
-      go : (r : Record) → kindNumber (M.kind r) ≡ 4 → k + 1 ≡ innermost (numbersAfter k ns r)
-      go (workRecord least most) h = unfold kindNumber M.kind in absurd (omega arith)
-      go (loopRecord l) h = unfold kindNumber M.kind in absurd (omega arith)
-      go endRecord h = unfold kindNumber M.kind in absurd (omega arith)
-      go choiceRecord h = unfold numbersAfter innermost in add-one k
-      go nextArmRecord h = unfold kindNumber M.kind in absurd (omega arith)
-
-  at-end : {X : Type 0} → (x ≡ endRecord → X) → kind ≡ 3 → X
-  unfolding kindNumber M.kind
-  at-end {X} f e = go x refl (sym is ∙ e)
-    where
-      go : (r : Record) → x ≡ r → kindNumber (M.kind r) ≡ 3 → X
-      go (workRecord least most) p h = absurd (omega arith)
-      go (loopRecord l) p h = absurd (omega arith)
-      go endRecord p h = f p
-      go choiceRecord p h = absurd (omega arith)
-      go nextArmRecord p h = absurd (omega arith)
-
-  pub inner-end-none : kind ≡ 3 → inner ≡ 0 → 0 ≡ innermost (numbersAfter k ns x)
-  inner-end-none e z = at-end (λ p. go ns (sym inmost ∙ z) ∙ ap (λ r. innermost (numbersAfter k ns r)) (sym p)) e
-    where
-      go : (ms : List ℕ) → innermost ms ≡ 0 → 0 ≡ innermost (numbersAfter k ms endRecord)
-      go [] h = unfold numbersAfter innermost in refl
-      go (n ∷ ms) h = unfold innermost in absurd (omega arith)
-
-  pub inner-end : kind ≡ 3 → (inner ≡ 0 → ⊥) → (rows : List ℕ) → InnersKnown rows ns → (n : ℕ) → n ≡ getD rows (8 * (inner - 1) + 4) 0 → n ≡ innermost (numbersAfter k ns x)
-  inner-end e open-one rows known n is = at-end (λ p. go ns refl ∙ ap (λ r. innermost (numbersAfter k ns r)) (sym p)) e
-    where
-      go : (ms : List ℕ) → ns ≡ ms → n ≡ innermost (numbersAfter k ms endRecord)
-      go [] q = absurd (open-one (inmost ∙ ap innermost q ∙ (unfold innermost in refl)))
-      go (m ∷ ms) q =
-          let same : inner ≡ suc m = inmost ∙ ap innermost q ∙ (unfold innermost in refl) in
-          is ∙ ap (λ (i : ℕ). getD rows (8 * i + 4) 0) (let f : inner - 1 ≡ m = omega arith in f) ∙ known .around m ms q ∙ (unfold numbersAfter in refl)
-
-  pub inner-other : (kind ≡ 2 → ⊥) → (kind ≡ 4 → ⊥) → (kind ≡ 3 → ⊥) → inner ≡ innermost (numbersAfter k ns x)
-  inner-other a b c = inmost ∙ go x (λ e. a (is ∙ e)) (λ e. b (is ∙ e)) (λ e. c (is ∙ e))
-    where
-      go : (r : Record) → (kindNumber (M.kind r) ≡ 2 → ⊥) → (kindNumber (M.kind r) ≡ 4 → ⊥) → (kindNumber (M.kind r) ≡ 3 → ⊥) → innermost ns ≡ innermost (numbersAfter k ns r)
-      go (workRecord least most) p q s = unfold numbersAfter in refl
-      go (loopRecord l) p q s = unfold kindNumber M.kind in absurd (p refl)
-      go endRecord p q s = unfold kindNumber M.kind in absurd (s refl)
-      go choiceRecord p q s = unfold kindNumber M.kind in absurd (q refl)
-      go nextArmRecord p q s = unfold numbersAfter in refl
+use Rattle.sheet.proofs.SheetRecords.{few-records, one-more, records-in-place, around}
+use Rattle.nest.proofs.Endings.{kind-read, offset-small, present, role-read, stands-there, next-by-kind}
+use Rattle.nest.proofs.Roles.{end-by-role, enclosing-by-role, loops-by-role, loops-more}
+use Rattle.nest.proofs.RowsOf.{end-inside, rows-length, row-at}
+use Rattle.nest.proofs.Places.{in-place-through, opens-in-place, opens-few}
+use Rattle.nest.proofs.Walks.{numbersThrough, opens-one-more, opensThrough, loops-append, loopsThrough, numbers-one-more, positionAfter}
+use mathlib.Core.Option.{some}
 
 -- the numbers of the open records are those of records before
 Below : ℕ → List ℕ → Type 0
-Below k [] = Unit {0}
-Below k (n ∷ ns) = (n < k) × Below k ns
+Below n [] = Unit {0}
+Below n (m ∷ ms) = (m < n) × Below n ms
 
-below-more : (k : ℕ) (ns : List ℕ) → Below k ns → Below (suc k) ns
+below-more : (n : ℕ) (ms : List ℕ) → Below n ms → Below (suc n) ms
 unfolding Below
-below-more k [] h = tt
-below-more k (n ∷ ns) h = (omega (arith, h .0), below-more k ns (h .1))
+below-more n [] h = tt
+below-more n (m ∷ ms) h = (omega (arith, h .0), below-more n ms (h .1))
 
-below-after : (k : ℕ) (ns : List ℕ) (r : Record) → Below k ns → Below (suc k) (numbersAfter k ns r)
+below-after : (n : ℕ) (ms : List ℕ) (r : Record) → Below n ms → Below (suc n) (numbersAfter n ms r)
 unfolding Below numbersAfter
-below-after k ns (workRecord least most) h = below-more k ns h
-below-after k ns (loopRecord l) h = (omega arith, below-more k ns h)
-below-after k [] endRecord h = tt
-below-after k (n ∷ ns) endRecord h = below-more k ns (h .1)
-below-after k ns choiceRecord h = (omega arith, below-more k ns h)
-below-after k ns nextArmRecord h = below-more k ns h
+below-after n ms (workRecord least most) h = below-more n ms h
+below-after n ms (loopRecord l) h = (omega arith, below-more n ms h)
+below-after n [] endRecord h = tt
+below-after n (m ∷ ms) endRecord h = below-more n ms (h .1)
+below-after n ms choiceRecord h = (omega arith, below-more n ms h)
+below-after n ms nextArmRecord h = below-more n ms h
 
-below-through : (xs : List Record) (k : ℕ) (ns : List ℕ) → Below k ns → Below (k + length xs) (numbersThrough k ns xs)
+below-through : (xs : List Record) (n : ℕ) (ms : List ℕ) → Below n ms → Below (n + length xs) (numbersThrough n ms xs)
 unfolding numbersThrough
-below-through [] k ns h = subst (λ (n : ℕ). Below n ns) (let e : k ≡ k + 0 = omega arith in e) h
-below-through (x ∷ xs) k ns h =
-    subst (λ (n : ℕ). Below n (numbersThrough (suc k) (numbersAfter k ns x) xs)) (let e : suc k + length xs ≡ k + suc (length xs) = omega arith in e)
-    (below-through xs (suc k) (numbersAfter k ns x) (below-after k ns x h))
+below-through [] n ms h = subst (λ (m : ℕ). Below m ms) (let e : n ≡ n + 0 = omega arith in e) h
+below-through (x ∷ xs) n ms h =
+    subst (λ (m : ℕ). Below m (numbersThrough (suc n) (numbersAfter n ms x) xs)) (let e : suc n + length xs ≡ n + suc (length xs) = omega arith in e)
+    (below-through xs (suc n) (numbersAfter n ms x) (below-after n ms x h))
 
-below-first : (n : ℕ) (ms : List ℕ) (j k : ℕ) → Below j (n ∷ ms) → j ≤ k → n < k
+below-first : (m : ℕ) (ms : List ℕ) (i n : ℕ) → Below i (m ∷ ms) → i ≤ n → m < n
 unfolding Below
-below-first n ms j k h e = omega (arith, h .0)
+below-first m ms i n h e = omega (arith, h .0)
 
-pub blankRow : Row
-blankRow = record { kind = 0; first = 0; second = 0; ending = 0; inner = 0; opened = 0; depth = 0; offset = 0 }
-
-abbrev pub laid : List Row → List ℕ
-laid rows = stored rowNumbers rowNumbers-length rows
-
-opener-inner : (rowOf : ℕ → Row) (n : ℕ) (ms : List ℕ) (os : List Open) → OpenerRows rowOf (n ∷ ms) os → rowOf n .inner ≡ innermost ms
+opener-enclosing : (rowOf : ℕ → Row) (n : ℕ) (ms : List ℕ) (os : List Open) → OpenerRows rowOf (n ∷ ms) os → rowOf n .enclosing ≡ innermost ms
 unfolding OpenerRows
-opener-inner rowOf n ms [] h = absurd h
-opener-inner rowOf n ms (o ∷ os) h = h .0 .innerIs
+opener-enclosing rowOf n ms [] h = absurd h
+opener-enclosing rowOf n ms (o ∷ os) h = h .0 .enclosingIs
 
-inner-cell : (r : Row) → getD (rowNumbers r) 4 0 ≡ r .inner
-unfolding rowNumbers
-inner-cell r = refl
+-- the rows of the records before record n, stored into an array
+abbrev pub laid : List ℕ → List Record → ℕ → List ℕ
+laid before rs n = storedIn before (joined rowNumbers (take n (rowsOf rs)))
 
-inners-known : (rs : List Record) (k : ℕ) → k < length rs → InnersKnown (laid (take (k + 1) (rowsOf rs))) (numbersThrough 0 [] (take k rs))
-inners-known rs k h = record {
-  around = λ n ms e.
-      let long : length (rowsOf rs) ≡ length rs = (unfold rowsOf in rows-length rs 0 0 [] []) in
+inners-known : (before : List ℕ) (rs : List Record) (n : ℕ) → n < length rs → length rs ≤ recordLimit →
+    InnersKnown (laid before rs (n + 1)) (numbersThrough 0 [] (take n rs))
+inners-known before rs n h few = record {
+  around = λ m ms e.
+      let long : length (rowsOf rs) ≡ length rs = (unfold rowsOf in rows-length rs sheetStart) in
       let empty : Below 0 [] = (unfold Below in tt) in
-      let size : length (take k rs) ≡ k = length-take-le k rs (omega arith) in
-      let below = subst (Below (0 + length (take k rs))) e (below-through (take k rs) 0 [] empty) in
-      let less : n < k = below-first n ms (0 + length (take k rs)) k below (omega arith) in
-      let some : length (take (k + 1) (rowsOf rs)) ≡ k + 1 = length-take-le (k + 1) (rowsOf rs) (omega arith) in
-      let opener = subst (λ xs. OpenerRows (λ m. getD (rowsOf xs) m blankRow) (numbersThrough 0 [] (take k rs)) (opensThrough [] (take k rs))) (take-append-drop k rs) (open-rows (take k rs) (drop k rs) blankRow) in
-      stored-at rowNumbers rowNumbers-length (take (k + 1) (rowsOf rs)) n 4 blankRow (omega arith) (omega arith)
-      ∙ inner-cell (getD (take (k + 1) (rowsOf rs)) n blankRow)
-      ∙ ap (λ (r : Row). r .inner) (getD-take (k + 1) (rowsOf rs) n blankRow (omega arith))
-      ∙ opener-inner (λ m. getD (rowsOf rs) m blankRow) n ms (opensThrough [] (take k rs)) (subst (λ xs. OpenerRows (λ m. getD (rowsOf rs) m blankRow) xs (opensThrough [] (take k rs))) e opener);
+      let size : length (take n rs) ≡ n = length-take-le n rs (omega arith) in
+      let below = subst (Below (0 + length (take n rs))) e (below-through (take n rs) 0 [] empty) in
+      let less : m < n = below-first m ms (0 + length (take n rs)) n below (omega arith) in
+      let some : length (take (n + 1) (rowsOf rs)) ≡ n + 1 = length-take-le (n + 1) (rowsOf rs) (omega arith) in
+      let opener =
+      subst (λ xs. OpenerRows (λ i. getD (rowsOf xs) i blankRow) (numbersThrough 0 [] (take n rs)) (opensThrough [] (take n rs))) (take-append-drop n rs)
+      (open-rows (take n rs) (drop n rs) blankRow) in
+      let column : getD (rowNumbers (getD (take (n + 1) (rowsOf rs)) m blankRow)) 4 0 ≡ getD (take (n + 1) (rowsOf rs)) m blankRow .enclosing =
+      (unfold rowNumbers in refl) in
+      row-number before (take (n + 1) (rowsOf rs)) m 4 (omega arith) (omega arith) (omega arith)
+      ∙ column ∙ ap (λ (r : Row). r .enclosing) (getD-take (n + 1) (rowsOf rs) m blankRow (omega arith))
+      ∙ opener-enclosing (λ i. getD (rowsOf rs) i blankRow) m ms (opensThrough [] (take n rs))
+      (subst (λ xs. OpenerRows (λ i. getD (rowsOf rs) i blankRow) xs (opensThrough [] (take n rs))) e opener);
 }
 
 -- ---- one row
 
 -- works and loops have their costs in front
-first-cost : (r : Record) (body : List ℕ) → length body ≡ bodyLength (M.kind r) → decodeRecord (M.kind r) body ≡ r → unsigned16 body 0 ≡ firstNumber r
-unfolding M.kind bodyLength decodeRecord firstNumber
-first-cost (workRecord least most) body n e = cc
-first-cost (loopRecord l) body n e = let s : record { start = unsigned16 body 0; step = unsigned16 body 2; stride = unsigned16 body 4; lower = formAt body 6; upper = formAt body 15 } ≡ l = cc in ap (λ (x : M.Loop). x .start) s
-first-cost endRecord body n e = sym (unsigned16-past body 0 (omega arith))
-first-cost choiceRecord body n e = sym (unsigned16-past body 0 (omega arith))
-first-cost nextArmRecord body n e = sym (unsigned16-past body 0 (omega arith))
+first-cost : (r : Record) (body : List ℕ) → decodeRecord (kind r) body ≡ r → costIn (kindNumber (kind r)) body 0 ≡ firstCost r
+unfolding costIn costBy kindOf kindNumber kind decodeRecord firstCost
+first-cost (workRecord least most) body e = cc
+first-cost (loopRecord l) body e = ap firstCost e
+first-cost endRecord body e = refl
+first-cost choiceRecord body e = refl
+first-cost nextArmRecord body e = refl
 
-second-cost : (r : Record) (body : List ℕ) → length body ≡ bodyLength (M.kind r) → decodeRecord (M.kind r) body ≡ r → unsigned16 body 2 ≡ secondNumber r
-unfolding M.kind bodyLength decodeRecord secondNumber
-second-cost (workRecord least most) body n e = cc
-second-cost (loopRecord l) body n e = let s : record { start = unsigned16 body 0; step = unsigned16 body 2; stride = unsigned16 body 4; lower = formAt body 6; upper = formAt body 15 } ≡ l = cc in ap (λ (x : M.Loop). x .step) s
-second-cost endRecord body n e = sym (unsigned16-past body 2 (omega arith))
-second-cost choiceRecord body n e = sym (unsigned16-past body 2 (omega arith))
-second-cost nextArmRecord body n e = sym (unsigned16-past body 2 (omega arith))
+second-cost : (r : Record) (body : List ℕ) → decodeRecord (kind r) body ≡ r → costIn (kindNumber (kind r)) body 2 ≡ secondCost r
+unfolding costIn costBy kindOf kindNumber kind decodeRecord secondCost
+second-cost (workRecord least most) body e = cc
+second-cost (loopRecord l) body e = ap secondCost e
+second-cost endRecord body e = refl
+second-cost choiceRecord body e = refl
+second-cost nextArmRecord body e = refl
 
--- the row of record k, from what stands at its offset
-module _ (sheet : List ℕ) (count k at : ℕ) (all : count ≡ length (recordsOf sheet)) (less : k < count) (offset : at ≡ sheetLength (take k (recordsOf sheet))) where
-  abbrev this : Record
-  this = getD (recordsOf sheet) k endRecord
-
-  there : k < length (recordsOf sheet)
-  there = omega (arith, all)
-
-  pub number-there : getD sheet at 0 ≡ kindNumber (M.kind this)
-  number-there = ap (λ (n : ℕ). getD sheet n 0) offset ∙ kind-there sheet k there
-
-  stands : StandsAt sheet at this
-  stands = subst (λ (n : ℕ). StandsAt sheet n this) (sym offset) (record-stands sheet k there)
-
-  pub next-at : (body : List ℕ) → body ≡ bodyAt sheet at → at + (1 + length body) ≡ sheetLength (take (k + 1) (recordsOf sheet))
-  unfolding recordLength
-  next-at body b = omega (arith, ap length b, stands .bodyLong, offset, next-offset sheet k there)
-
-  pub next-by-kind : (kind n : ℕ) → kind ≡ getD sheet at 0 → n ≡ lengthOfKind kind → at + (1 + n) ≡ sheetLength (take (k + 1) (recordsOf sheet))
-  next-by-kind kind n i e =
-      let l = ap (λ (m : ℕ). 1 + m) (e ∙ ap lengthOfKind (i ∙ number-there)) ∙ length-by-number this in
-      omega (arith, l, offset, next-offset sheet k there)
-
-  pub next-inside : sheetLength (take (k + 1) (recordsOf sheet)) ≤ length sheet
-  next-inside = omega (arith, record-fits sheet k there, next-offset sheet k there)
-
-  pub row-is : (kind : ℕ) → kind ≡ getD sheet at 0 → (body : List ℕ) → body ≡ bodyAt sheet at → (first second end inner : ℕ) (here : Nesting) →
-      first ≡ unsigned16 body 0 → second ≡ unsigned16 body 2 → end ≡ endNumber k this (drop (k + 1) (recordsOf sheet)) →
-      (os : List Open) (ns : List ℕ) → here ≡ nestingOf os → inner ≡ innermost ns →
-      kind ∷ first ∷ second ∷ end ∷ inner ∷ here .size ∷ here .depth ∷ at ∷ [] ≡ rowNumbers (rowAt k at os ns this (drop (k + 1) (recordsOf sheet)))
-  unfolding rowNumbers rowAt nestingOf
-  row-is kind i body b first second end inner here f s e os ns h n =
-      let one : first ≡ firstNumber this = f ∙ ap (λ (l : List ℕ). unsigned16 l 0) b ∙ first-cost this (bodyAt sheet at) (stands .bodyLong) (stands .decoded) in
-      let two : second ≡ secondNumber this = s ∙ ap (λ (l : List ℕ). unsigned16 l 2) b ∙ second-cost this (bodyAt sheet at) (stands .bodyLong) (stands .decoded) in
-      λ t. (i ∙ number-there) t ∷ one t ∷ two t ∷ e t ∷ n t ∷ h t .size ∷ h t .depth ∷ at ∷ []
+-- the row of a record, from what is read at its offset
+pub row-is : {sheet : List ℕ} {count n at : ℕ} (g : RecordAt sheet count n at) {byte : ℕ} → byte ≡ getD sheet at 0 → {body : List ℕ} → body ≡ bodyAt sheet at →
+    {role first second end loops enclosing frame depth offset : ℕ} {here : Nesting} → role ≡ roleOfByte byte →
+    first ≡ costIn byte body 0 → second ≡ costIn byte body 2 → end ≡ endOfRole role n (drop (n + 1) (recordsOf sheet)) % 2 ^ 16 →
+    frame ≡ here .size % 2 ^ 16 → depth ≡ here .depth % 2 ^ 16 → offset ≡ at % 2 ^ 16 →
+    (p : Position) → AtPosition p n at loops enclosing here →
+    record { role = role; first = first; second = second; end = end; enclosing = enclosing; frame = frame; depth = depth; loops = loops; offset = offset }
+    ≡ rowAt p (getD (recordsOf sheet) n endRecord) (drop (n + 1) (recordsOf sheet))
+unfolding rowAt nestingOf
+row-is {sheet} {count} {n} {at} g {byte} b {body} bs {role} {first} {second} {end} {loops} {enclosing} {frame} {depth} {offset} {here} r f s e fr de o p q =
+    let this : Record = getD (recordsOf sheet) n endRecord in
+    let rest : List Record = drop (n + 1) (recordsOf sheet) in
+    let number : byte ≡ kindNumber (kind this) = b ∙ kind-read g in
+    let decoded = stands-there g .decoded in
+    let is-role : role ≡ roleNumber (roleOf this) = role-read g b r in
+    let one : first ≡ firstCost this = f ∙ ap₂ (λ (k : ℕ) (l : List ℕ). costIn k l 0) number bs ∙ first-cost this (bodyAt sheet at) decoded in
+    let two : second ≡ secondCost this = s ∙ ap₂ (λ (k : ℕ) (l : List ℕ). costIn k l 2) number bs ∙ second-cost this (bodyAt sheet at) decoded in
+    let size : length rest ≡ length (recordsOf sheet) - (n + 1) = length-drop (n + 1) (recordsOf sheet) in
+    let small : endNumber n this rest < 2 ^ 16 = omega (arith, end-inside this rest n, size, few-records sheet, present g) in
+    let last : end ≡ endNumber (p .number) this rest =
+    e ∙ ap (λ (m : ℕ). m % 2 ^ 16) (ap (λ (m : ℕ). endOfRole m n rest) is-role ∙ end-by-role this n rest) ∙ mod-eq-of-lt small
+    ∙ ap (λ (m : ℕ). endNumber m this rest) (q .numberIs) in
+    let open-now : frame ≡ length (p .opens) =
+    fr ∙ ap (λ (x : Nesting). x .size % 2 ^ 16) (q .opensAre) ∙ mod-eq-of-lt (let h : length (p .opens) < 2 ^ 16 = omega (arith, q .fewOpen) in h) in
+    let deep : depth ≡ loopDepth (p .opens) =
+    de ∙ ap (λ (x : Nesting). x .depth % 2 ^ 16) (q .opensAre) ∙ mod-eq-of-lt (let h : loopDepth (p .opens) < 2 ^ 16 = omega (arith, q .fewOpen, depth-at-most (p .opens)) in h) in
+    let stands : offset ≡ p .offset = o ∙ mod-eq-of-lt (offset-small g) ∙ q .offsetIs in
+    λ t. record {
+      role = is-role t;
+      first = one t;
+      second = two t;
+      end = last t;
+      enclosing = q .enclosingIs t;
+      frame = open-now t;
+      depth = deep t;
+      loops = q .loopsAre t;
+      offset = stands t;
+    }
 
 -- ---- the rows laid so far
 
-pub opens-one-more : (xs : List Record) (x : Record) (os : List Open) → opensThrough os (xs ++ (x ∷ [])) ≡ opensAfter (opensThrough os xs) x
-unfolding opensThrough
-opens-one-more [] x os = refl
-opens-one-more (y ∷ xs) x os = opens-one-more xs x (opensAfter os y)
-
-numbers-one-more : (xs : List Record) (x : Record) (k : ℕ) (ns : List ℕ) → numbersThrough k ns (xs ++ (x ∷ [])) ≡ numbersAfter (k + length xs) (numbersThrough k ns xs) x
-unfolding numbersThrough
-numbers-one-more [] x k ns = ap (λ (n : ℕ). numbersAfter n ns x) (let e : k ≡ k + 0 = omega arith in e)
-numbers-one-more (y ∷ xs) x k ns =
-    numbers-one-more xs x (suc k) (numbersAfter k ns y) ∙ ap (λ (n : ℕ). numbersAfter n (numbersThrough (suc k) (numbersAfter k ns y) xs) x) (let e : suc k + length xs ≡ k + suc (length xs) = omega arith in e)
-
-by-number : (os : List Open) (r : Record) → openAfterKind os (kindNumber (M.kind r)) ≡ openAfter os r
+by-number : (os : List Open) (r : Record) → openAfterKind os (kindNumber (kind r)) ≡ openAfter os r
 unfolding openAfterKind openAfterAs
-by-number os r = ap (openAfterAs os) (kindOf-kindNumber (M.kind r)) ∙ go r
+by-number os r = ap (openAfterAs os) (kindOf-kindNumber (kind r)) ∙ go r
   where
-    go : (r : Record) → openAfter os (decodeRecord (M.kind r) []) ≡ openAfter os r
-    go (workRecord least most) = unfold openAfter decodeRecord M.kind in refl
-    go (loopRecord l) = unfold openAfter decodeRecord M.kind in refl
-    go endRecord = unfold decodeRecord M.kind in refl
-    go choiceRecord = unfold decodeRecord M.kind in refl
-    go nextArmRecord = unfold decodeRecord M.kind in refl
+    go : (r : Record) → openAfter os (decodeRecord (kind r) []) ≡ openAfter os r
+    go (workRecord least most) = unfold openAfter decodeRecord kind in refl
+    go (loopRecord l) = unfold openAfter decodeRecord kind in refl
+    go endRecord = unfold decodeRecord kind in refl
+    go choiceRecord = unfold decodeRecord kind in refl
+    go nextArmRecord = unfold decodeRecord kind in refl
 
--- what is open before record k, and after it
-pub opens-next : (sheet : List ℕ) (k : ℕ) → k < length (recordsOf sheet) →
-    openAfterKind (opensThrough [] (take k (recordsOf sheet))) (kindNumber (M.kind (getD (recordsOf sheet) k endRecord))) ≡ some (opensThrough [] (take (k + 1) (recordsOf sheet)))
+-- what is open after record n
+pub opens-next : (sheet : List ℕ) (n : ℕ) → n < length (recordsOf sheet) →
+    openAfterKind (opensThrough [] (take n (recordsOf sheet))) (kindNumber (kind (getD (recordsOf sheet) n endRecord)))
+    ≡ some (opensThrough [] (take (n + 1) (recordsOf sheet)))
 unfolding InPlace
-opens-next sheet k there =
+opens-next sheet n there =
     let rs : List Record = recordsOf sheet in
-    let this : Record = getD rs k endRecord in
-    let os : List Open = opensThrough [] (take k rs) in
-    let placed = in-place-through (take k rs) (this ∷ drop (suc k) rs) [] (subst (InPlace []) (parts sheet k there) (records-in-place sheet)) in
-    by-number os this ∙ placed .1 ∙ ap some (sym (opens-in-place os (placed .0) this (placed .1)) ∙ sym (opens-one-more (take k rs) this []) ∙ ap (opensThrough []) (sym (longer sheet k there)))
+    let this : Record = getD rs n endRecord in
+    let os : List Open = opensThrough [] (take n rs) in
+    let placed = in-place-through (take n rs) (this ∷ drop (suc n) rs) [] (subst (InPlace []) (around sheet n there) (records-in-place sheet)) in
+    by-number os this ∙ placed .1
+    ∙ ap some (sym (opens-in-place os (placed .0) this (placed .1)) ∙ sym (opens-one-more (take n rs) this []) ∙ ap (opensThrough []) (sym (one-more sheet n there)))
 
-pub record Laying (sheet : List ℕ) (count : ℕ) (rows : List ℕ) (at inner : ℕ) (here : Nesting) (k : ℕ) : Type 0 where
+pub record Laying (sheet : List ℕ) (count : ℕ) (before rows : List ℕ) (at loops enclosing : ℕ) (here : Nesting) (n : ℕ) : Type 0 where
   pub all : count ≡ length (recordsOf sheet)
-  pub few : count ≤ 64
-  pub so-far : k ≤ count
-  pub offset : at ≡ sheetLength (take k (recordsOf sheet))
-  pub inmost : inner ≡ innermost (numbersThrough 0 [] (take k (recordsOf sheet)))
-  pub opens : here ≡ nestingOf (opensThrough [] (take k (recordsOf sheet)))
-  pub long : length rows ≡ 512
-  pub laidSoFar : rows ≡ laid (take k (rowsOf (recordsOf sheet)))
+  pub so-far : n ≤ count
+  pub loops-few : loops ≤ n
+  pub position : AtPosition (positionAfter (take n (recordsOf sheet))) n at loops enclosing here
+  pub rowsSoFar : rows ≡ laid before (recordsOf sheet) n
 
-pub laying-start : (sheet : List ℕ) (count : ℕ) (rows : List ℕ) (here : Nesting) → count ≡ length (recordsOf sheet) → rows ≡ replicate 512 0 → here ≡ nestingOf [] → Laying sheet count rows 0 0 here 0
-unfolding sheetLength numbersThrough innermost opensThrough
-laying-start sheet count rows here all zeros none = record {
+pub laying-start : {sheet : List ℕ} {count : ℕ} (before : List ℕ) {here : Nesting} → count ≡ length (recordsOf sheet) → here ≡ nestingOf [] →
+    Laying sheet count before before 0 0 0 here 0
+unfolding sheetLength numbersThrough innermost opensThrough loopsThrough joined
+laying-start before all fresh = record {
   all = all;
-  few = omega (arith, few-records sheet);
   so-far = omega arith;
-  offset = refl;
-  inmost = refl;
-  opens = none;
-  long = ap length zeros;
-  laidSoFar = zeros ∙ sym (stored-none rowNumbers rowNumbers-length);
+  loops-few = omega arith;
+  position = record { numberIs = refl; offsetIs = refl; loopsAre = refl; enclosingIs = refl; opensAre = fresh; fewOpen = omega arith };
+  rowsSoFar = sym (stored-none before);
 }
 
-module _ (sheet : List ℕ) (count : ℕ) (rows : List ℕ) (at inner : ℕ) (here : Nesting) (k : ℕ) (g : Laying sheet count rows at inner here k) where
+module _ {sheet : List ℕ} {count : ℕ} {before rows : List ℕ} {at loops enclosing : ℕ} {here : Nesting} {n : ℕ}
+    (g : Laying sheet count before rows at loops enclosing here n) where
   abbrev rs : List Record
   rs = recordsOf sheet
 
   count-rows : length (rowsOf rs) ≡ length rs
   unfolding rowsOf
-  count-rows = rows-length rs 0 0 [] []
+  count-rows = rows-length rs sheetStart
 
-  pub laying-done : count ≤ k → rows ≡ padded (joined rowNumbers (rowsOf rs))
-  laying-done h =
-      g .laidSoFar ∙ ap laid (take-all k (rowsOf rs) (omega (arith, g .all, count-rows))) ∙ stored-padded rowNumbers rowNumbers-length (rowsOf rs)
+  pub laying-done : count ≤ n → rows ≡ storedIn before (rowsStored rs)
+  unfolding rowsStored
+  laying-done h = g .rowsSoFar ∙ ap (λ (l : List Row). storedIn before (joined rowNumbers l)) (take-all n (rowsOf rs) (omega (arith, g .all, count-rows)))
 
-  module _ (more : k < count) (row : List ℕ)
-      (is : row ≡ rowNumbers (rowAt k at (opensThrough [] (take k rs)) (numbersThrough 0 [] (take k rs)) (getD rs k endRecord) (drop (k + 1) rs))) where
+  module _ (more : n < count) where
+    pub laying-at : RecordAt sheet count n at
+    laying-at = record { all = g .all; there = more; offset = g .position .offsetIs }
+
     abbrev current : Record
-    current = getD rs k endRecord
+    current = getD rs n endRecord
 
-    present : k < length rs
-    present = omega (arith, g .all)
+    size : length (take n rs) ≡ n
+    size = length-take-le n rs (omega (arith, g .all))
 
-    size : length (take k rs) ≡ k
-    size = length-take-le k rs (omega (arith, present))
+    module _ {row : Row} (is : row ≡ rowAt (positionAfter (take n rs)) current (drop (n + 1) rs)) where
+      row-of-n : row ≡ getD (rowsOf rs) n blankRow
+      row-of-n =
+          is ∙ ap (λ (m : ℕ). rowAt (positionAfter (take n rs)) current (drop m rs)) (add-one n)
+          ∙ sym (row-at (take n rs) current (drop (suc n) rs) blankRow)
+          ∙ ap₂ (λ (xs : List Record) (m : ℕ). getD (rowsOf xs) m blankRow) (sym (around sheet n (present laying-at))) size
 
-    row-of-k : row ≡ rowNumbers (getD (rowsOf rs) k blankRow)
-    row-of-k =
-        is
-        ∙ ap₂ (λ (a : ℕ) (ys : List Record). rowNumbers (rowAt k a (opensThrough [] (take k rs)) (numbersThrough 0 [] (take k rs)) current ys)) (g .offset) (ap (λ (n : ℕ). drop n rs) (add-one k))
-        ∙ ap (λ (n : ℕ). rowNumbers (rowAt n (sheetLength (take k rs)) (opensThrough [] (take k rs)) (numbersThrough 0 [] (take k rs)) current (drop (suc k) rs))) (sym size)
-        ∙ ap rowNumbers (sym (row-at (take k rs) current (drop (suc k) rs) blankRow))
-        ∙ ap₂ (λ (xs : List Record) (n : ℕ). rowNumbers (getD (rowsOf xs) n blankRow)) (sym (parts sheet k present)) size
+      laid-next : paste rows (rowFrom n) (rowNumbers row) rowWidth ≡ laid before rs (n + 1)
+      laid-next =
+          let inside : n < length (rowsOf rs) = omega (arith, present laying-at, count-rows) in
+          let long : n ≡ length (take n (rowsOf rs)) = sym (length-take-le n (rowsOf rs) (omega (arith, inside))) in
+          ap₂ (λ (l : List ℕ) (r : Row). paste l (rowFrom n) (rowNumbers r) rowWidth) (g .rowsSoFar) row-of-n
+          ∙ row-next before (take n (rowsOf rs)) n (getD (rowsOf rs) n blankRow) long (omega (arith, present laying-at, few-records sheet))
+          ∙ ap (λ (l : List Row). storedIn before (joined rowNumbers l)) (sym (take-suc (rowsOf rs) n blankRow inside) ∙ ap (λ (m : ℕ). take m (rowsOf rs)) (sym (add-one n)))
 
-    laid-next : paste rows (8 * k) row 8 ≡ laid (take (k + 1) (rowsOf rs))
-    laid-next =
-        let inside : k < length (rowsOf rs) = omega (arith, present, count-rows) in
-        let long : length (take k (rowsOf rs)) ≡ k = length-take-le k (rowsOf rs) (omega (arith, inside)) in
-        ap (λ (l : List ℕ). paste l (8 * k) row 8) (g .laidSoFar)
-        ∙ stored-next rowNumbers rowNumbers-length (take k (rowsOf rs)) (getD (rowsOf rs) k blankRow) k row long (omega (arith, g .few)) row-of-k
-        ∙ ap laid (sym (take-suc (rowsOf rs) k blankRow inside) ∙ ap (λ (n : ℕ). take n (rowsOf rs)) (sym (add-one k)))
+      module _ {rows2 : List ℕ} (stored : rows2 ≡ paste rows (rowFrom n) (rowNumbers row) rowWidth) {byte role : ℕ}
+          (b : byte ≡ getD sheet at 0) (r : role ≡ roleOfByte byte) where
+        inners-there : InnersKnown rows2 (numbersThrough 0 [] (take n rs))
+        inners-there =
+            subst (λ (l : List ℕ). InnersKnown l (numbersThrough 0 [] (take n rs))) (sym (stored ∙ laid-next))
+            (inners-known before rs n (present laying-at) (few-records sheet))
 
-    pub inners-there : (rows2 : List ℕ) → rows2 ≡ paste rows (8 * k) row 8 → InnersKnown rows2 (numbersThrough 0 [] (take k rs))
-    inners-there rows2 e = subst (λ (l : List ℕ). InnersKnown l (numbersThrough 0 [] (take k rs))) (sym (e ∙ laid-next)) (inners-known rs k present)
-
-    pub laying-next : (rows2 : List ℕ) → rows2 ≡ paste rows (8 * k) row 8 → (inner2 : ℕ) → inner2 ≡ innermost (numbersAfter k (numbersThrough 0 [] (take k rs)) current) →
-        (here2 : Nesting) → here2 ≡ nestingOf (opensThrough [] (take (k + 1) rs)) → (at2 : ℕ) → at2 ≡ sheetLength (take (k + 1) rs) →
-        Laying sheet count rows2 at2 inner2 here2 (k + 1)
-    laying-next rows2 r inner2 i here2 h at2 a = record {
-      all = g .all;
-      few = g .few;
-      so-far = omega arith;
-      offset = a;
-      inmost = i ∙ ap (λ (n : ℕ). innermost (numbersAfter n (numbersThrough 0 [] (take k rs)) current)) (let e : k ≡ 0 + length (take k rs) = omega (arith, size) in e)
-          ∙ ap innermost (sym (numbers-one-more (take k rs) current 0 []) ∙ ap (numbersThrough 0 []) (sym (longer sheet k present)));
-      opens = h;
-      long = ap length (r ∙ laid-next) ∙ stored-length rowNumbers rowNumbers-length (take (k + 1) (rowsOf rs)) (omega (arith, length-take-le (k + 1) (rowsOf rs) (omega (arith, count-rows, present)), g .few));
-      laidSoFar = r ∙ laid-next;
-    }
+        pub laying-next : {enclosing2 loops2 : ℕ} → enclosing2 ≡ enclosingAfterRole rows2 role n enclosing → loops2 ≡ loopsAfterRole role loops →
+            {here2 : Nesting} → ((os us : List Open) → here ≡ nestingOf os → openAfterKind os byte ≡ some us → here2 ≡ nestingOf us) →
+            {long : ℕ} → long ≡ lengthOfKind byte → Laying sheet count before rows2 (at + (1 + long)) loops2 enclosing2 here2 (n + 1)
+        laying-next {enclosing2} {loops2} e l {here2} h k =
+            let now : AtPosition (positionAfter (take n rs)) n at loops enclosing here = g .position in
+            let known : role ≡ roleNumber (roleOf current) = role-read laying-at b r in
+            let longer = one-more sheet n (present laying-at) in
+            let number : length (take (n + 1) rs) ≡ n + 1 = length-take-le (n + 1) rs (omega (arith, g .all)) in
+            let kinds : openAfterKind (opensThrough [] (take n rs)) byte ≡ some (opensThrough [] (take (n + 1) rs)) =
+            ap (openAfterKind (opensThrough [] (take n rs))) (b ∙ kind-read laying-at) ∙ opens-next sheet n (present laying-at) in
+            let whole : InPlace [] (take (n + 1) rs ++ drop (n + 1) rs) = subst (InPlace []) (sym (take-append-drop (n + 1) rs)) (records-in-place sheet) in
+            record {
+              all = g .all;
+              so-far = omega arith;
+              loops-few = omega (arith, g .loops-few, l, loops-more role loops);
+              position = record {
+                numberIs = sym number;
+                offsetIs = next-by-kind laying-at b k;
+                loopsAre =
+                    l ∙ ap₂ loopsAfterRole known (now .loopsAre) ∙ loops-by-role current (loopsThrough 0 (take n rs))
+                    ∙ sym (ap (loopsThrough 0) longer ∙ loops-append (take n rs) (current ∷ []) 0 ∙ (unfold loopsThrough in refl));
+                enclosingIs =
+                    e ∙ ap₂ (λ (m i : ℕ). enclosingAfterRole rows2 m n i) known (now .enclosingIs)
+                    ∙ enclosing-by-role rows2 current n (numbersThrough 0 [] (take n rs)) inners-there
+                    ∙ ap (λ (m : ℕ). innermost (numbersAfter m (numbersThrough 0 [] (take n rs)) current)) (let z : n ≡ 0 + length (take n rs) = omega (arith, size) in z)
+                    ∙ ap innermost (sym (numbers-one-more (take n rs) current 0 []) ∙ ap (numbersThrough 0 []) (sym longer));
+                opensAre = h (opensThrough [] (take n rs)) (opensThrough [] (take (n + 1) rs)) (now .opensAre) kinds;
+                fewOpen = opens-few (take (n + 1) rs) (drop (n + 1) rs) [] whole (omega arith);
+              };
+              rowsSoFar = stored ∙ laid-next;
+            }

@@ -1,153 +1,141 @@
--- A walk over a tree's records comes back to what was open before them.
-use mathlib.Core.Path.{_≡_, refl, sym, ap, ap₂, _∙_, subst}
-use mathlib.Core.List.{List, [], _∷_, _++_, map, append-assoc}
-use mathlib.Core.Option.{Option, none}
-use Prim.Native.Nat.{ℕ, zero, suc, _+_}
+-- Where a walk stands after records: what is open, the numbers of the open records, and how many loops there were.
+use mathlib.Core.Path.{_≡_, refl, sym, ap, _∙_}
+use mathlib.Core.List.{List, [], _∷_, _++_}
+use Prim.Native.Nat.{ℕ, suc, _+_, _≤_}
+use native.Mathlib.Nat.{add-zero}
 use native.Mathlib.Omega.{arith}
-use lib.IntN.{ℤ}
-use lib.ListN.{length, take, length-append}
-use Rattle.meaning.specs.Form.{value}
-use Rattle.meaning.specs.Record.{Loop, Record, workRecord, loopRecord, endRecord, choiceRecord, nextArmRecord, Open, openLoop, openChoice}
+use lib.ListN.{length}
+use Rattle.meaning.specs.Record.{Loop, Record, workRecord, loopRecord, endRecord, choiceRecord, nextArmRecord, sheetLength, Open}
 use Rattle.meaning.specs.Tree.{Block, Arms, empty, work, loop, choice, lastArm, arm, records, armsRecords}
-use Rattle.meaning.specs.Range.{innerRanges, indexRange}
-use Rattle.meaning.specs.Closed.{push, pushOwn, pushInner}
-use Rattle.nest.specs.Rows.{opensAfter, recordsInside}
-use Rattle.nest.specs.Slopes.{Enclosing, withoutLast, enter, leave, enclosingAfter, LoopFacts, factsAt, factsFrom}
-use Rattle.nest.proofs.Lists.{take-append, withoutLast-append-one}
+use Rattle.nest.specs.Walk.{opensAfter, numbersAfter, loopsAfter}
+use Rattle.nest.specs.Rows.{Position}
 
--- ---- the end of what is open lies after a tree's records
+-- ---- a walk over records
 
-mutual
-  unfolding recordsInside records
+module _ {S : Type 0} (step : ℕ → S → Record → S) where
+  -- where the walk stands after the records, of which the first has the number n
+  unfoldable pub through : ℕ → S → List Record → S
+  through n s [] = s
+  through n s (r ∷ rs) = through (suc n) (step n s r) rs
 
-  pub recordsInside-records : (b : Block) (inside : ℕ) (q : List Record) → recordsInside inside (records b ++ q) ≡ length (records b) + recordsInside inside q
-  recordsInside-records empty inside q = omega arith
-  recordsInside-records (work least most rest) inside q = omega (arith, recordsInside-records rest inside q)
-  recordsInside-records (loop l body rest) inside q =
-      let one = ap (recordsInside (suc inside)) (append-assoc (records body) (endRecord ∷ records rest) q) in
-      let two = recordsInside-records body (suc inside) (endRecord ∷ (records rest ++ q)) in
-      let three = recordsInside-records rest inside q in
-      omega (arith, length-append (records body) (endRecord ∷ records rest))
-  recordsInside-records (choice arms rest) inside q =
-      let one = ap (recordsInside (suc inside)) (append-assoc (armsRecords arms) (endRecord ∷ records rest) q) in
-      let two = recordsInside-arms arms (suc inside) (endRecord ∷ (records rest ++ q)) in
-      let three = recordsInside-records rest inside q in
-      omega (arith, length-append (armsRecords arms) (endRecord ∷ records rest))
+  pub through-append : (xs ys : List Record) (n : ℕ) (s : S) → through n s (xs ++ ys) ≡ through (n + length xs) (through n s xs) ys
+  unfolding through
+  through-append [] ys n s = ap (λ (m : ℕ). through m s ys) (sym (add-zero n))
+  through-append (x ∷ xs) ys n s =
+      let e : suc n + length xs ≡ n + suc (length xs) = omega arith in
+      through-append xs ys (suc n) (step n s x) ∙ ap (λ (m : ℕ). through m (through (suc n) (step n s x) xs) ys) e
 
-  pub recordsInside-arms : (arms : Arms) (inside : ℕ) (q : List Record) →
-      recordsInside inside (armsRecords arms ++ q) ≡ length (armsRecords arms) + recordsInside inside q
-  recordsInside-arms (lastArm b) inside q = recordsInside-records b inside q
-  recordsInside-arms (arm b arms) inside q =
-      let one = ap (recordsInside inside) (append-assoc (records b) (nextArmRecord ∷ armsRecords arms) q) in
-      let two = recordsInside-records b inside (nextArmRecord ∷ (armsRecords arms ++ q)) in
-      let three = recordsInside-arms arms inside q in
-      omega (arith, length-append (records b) (nextArmRecord ∷ armsRecords arms))
+  -- what a record opens, its end closes; works and next arms leave it
+  pub record Balanced : Type 0 where
+    pub atWork : (n : ℕ) (s : S) (least most : ℕ) → step n s (workRecord least most) ≡ s
+    pub atNextArm : (n : ℕ) (s : S) → step n s nextArmRecord ≡ s
+    pub atLoop : (n m : ℕ) (s : S) (l : Loop) → step m (step n s (loopRecord l)) endRecord ≡ s
+    pub atChoice : (n m : ℕ) (s : S) → step m (step n s choiceRecord) endRecord ≡ s
 
--- of a loop or choice with this body: just the body stands before the end
-pub recordsInside-body : (b : Block) (q : List Record) → recordsInside zero (records b ++ (endRecord ∷ q)) ≡ length (records b)
-unfolding recordsInside
-recordsInside-body b q = omega (arith, recordsInside-records b zero (endRecord ∷ q))
+  module _ (balanced : Balanced) where
+    mutual
+      unfolding through records
 
-pub recordsInside-choice : (arms : Arms) (q : List Record) → recordsInside zero (armsRecords arms ++ (endRecord ∷ q)) ≡ length (armsRecords arms)
-unfolding recordsInside
-recordsInside-choice arms q = omega (arith, recordsInside-arms arms zero (endRecord ∷ q))
+      -- a tree's records lead back to where the walk stood
+      pub through-records : (b : Block) (n : ℕ) (s : S) → through n s (records b) ≡ s
+      through-records empty n s = refl
+      through-records (work least most rest) n s = through-records rest (suc n) (step n s (workRecord least most)) ∙ balanced .atWork n s least most
+      through-records (loop l body rest) n s =
+          let inside : S = step n s (loopRecord l) in
+          let m : ℕ = suc n + length (records body) in
+          through-append (records body) (endRecord ∷ records rest) (suc n) inside
+          ∙ ap (λ x. through (suc m) (step m x endRecord) (records rest)) (through-records body (suc n) inside)
+          ∙ through-records rest (suc m) (step m inside endRecord) ∙ balanced .atLoop n m s l
+      through-records (choice arms rest) n s =
+          let inside : S = step n s choiceRecord in
+          let m : ℕ = suc n + length (armsRecords arms) in
+          through-append (armsRecords arms) (endRecord ∷ records rest) (suc n) inside
+          ∙ ap (λ x. through (suc m) (step m x endRecord) (records rest)) (through-arms arms (suc n) inside)
+          ∙ through-records rest (suc m) (step m inside endRecord) ∙ balanced .atChoice n m s
 
--- ---- the loops that are open
+      pub through-arms : (arms : Arms) (n : ℕ) (s : S) → through n s (armsRecords arms) ≡ s
+      through-arms (lastArm b) n s = through-records b n s
+      through-arms (arm b arms) n s =
+          let m : ℕ = n + length (records b) in
+          through-append (records b) (nextArmRecord ∷ armsRecords arms) n s
+          ∙ ap (λ x. through (suc m) (step m x nextArmRecord) (armsRecords arms)) (through-records b n s)
+          ∙ through-arms arms (suc m) (step m s nextArmRecord) ∙ balanced .atNextArm m s
 
--- another loop's pushes, without the one on the index of the loop that is left
-without-inner : (l : Loop) (pushes : List (List ℤ)) → map withoutLast (map (pushInner l) pushes) ≡ pushes
-unfolding pushInner
-without-inner l [] = refl
-without-inner l (p ∷ pushes) = ap₂ {C = List (List ℤ)} _∷_ (withoutLast-append-one p (push (l .lower) p)) (without-inner l pushes)
+-- ---- what is open, the numbers, and the count of loops
 
-module _ (ps : List ℤ) where
-  -- a loop that is entered and left leaves the open loops as they were
-  pub leave-enter : (l : Loop) (e : Enclosing) → leave (enter ps l e) ≡ e
-  unfolding leave enter innerRanges
-  leave-enter l e = λ t. record {
-    ranges = withoutLast-append-one (e .ranges) (indexRange ps l (e .ranges)) t;
-    starts = withoutLast-append-one (e .starts) (value ps (l .lower) (e .starts)) t;
-    pushes = (ap (map withoutLast) (withoutLast-append-one (map (pushInner l) (e .pushes)) (pushOwn l (length (e .ranges)))) ∙ without-inner l (e .pushes)) t;
-  }
+unfoldable pub opensThrough : List Open → List Record → List Open
+opensThrough os [] = os
+opensThrough os (r ∷ rs) = opensThrough (opensAfter os r) rs
 
-  pub facts-length : (os : List Open) (e : Enclosing) (rs : List Record) → length (factsFrom ps os e rs) ≡ length rs
-  unfolding factsFrom
-  facts-length os e [] = refl
-  facts-length os e (r ∷ rs) = ap suc (facts-length (opensAfter os r) (enclosingAfter ps os e r) rs)
+-- the numbers of the open records, the first record having the number n
+unfoldable pub numbersThrough : ℕ → List ℕ → List Record → List ℕ
+numbersThrough n ns [] = ns
+numbersThrough n ns (r ∷ rs) = numbersThrough (suc n) (numbersAfter n ns r) rs
 
-  -- where os and e are open before the records xs, us and f are open after them: their facts end where those of what follows begin
-  Leads : List Open → Enclosing → List Record → List Open → Enclosing → Type 0
-  Leads os e xs us f = (q : List Record) → factsFrom ps os e (xs ++ q) ≡ factsFrom ps os e xs ++ factsFrom ps us f q
+unfoldable pub loopsThrough : ℕ → List Record → ℕ
+loopsThrough n [] = n
+loopsThrough n (r ∷ rs) = loopsThrough (loopsAfter n r) rs
 
-  leads-first : (os : List Open) (e : Enclosing) (r : Record) (xs : List Record) (us : List Open) (f : Enclosing) →
-      Leads (opensAfter os r) (enclosingAfter ps os e r) xs us f → Leads os e (r ∷ xs) us f
-  unfolding Leads factsFrom
-  leads-first os e r xs us f h q = ap {B = List (Option LoopFacts)} (λ fs. factsAt ps os e r ∷ fs) (h q)
+-- the position after the records xs of a sheet
+abbrev pub positionAfter : List Record → Position
+positionAfter xs = record { number = length xs; loops = loopsThrough 0 xs; offset = sheetLength xs; opens = opensThrough [] xs; numbers = numbersThrough 0 [] xs }
 
-  leads-join : (os : List Open) (e : Enclosing) (xs : List Record) (us : List Open) (f : Enclosing) (ys : List Record) (vs : List Open) (g : Enclosing) →
-      Leads os e xs us f → Leads us f ys vs g → Leads os e (xs ++ ys) vs g
-  unfolding Leads
-  leads-join os e xs us f ys vs g h i q =
-      ap (factsFrom ps os e) (append-assoc xs ys q) ∙ h (ys ++ q)
-      ∙ ap (λ (fs : List (Option LoopFacts)). factsFrom ps os e xs ++ fs) (i q)
-      ∙ sym (append-assoc (factsFrom ps os e xs) (factsFrom ps us f ys) (factsFrom ps vs g q))
-      ∙ ap (λ (fs : List (Option LoopFacts)). fs ++ factsFrom ps vs g q) (sym (h ys))
+pub opens-append : (xs ys : List Record) (os : List Open) → opensThrough os (xs ++ ys) ≡ opensThrough (opensThrough os xs) ys
+unfolding opensThrough
+opens-append [] ys os = refl
+opens-append (x ∷ xs) ys os = opens-append xs ys (opensAfter os x)
 
-  -- A tree's records lead back to what was open before them.
-  mutual
-    unfolding Leads factsFrom opensAfter enclosingAfter records
+pub opens-one-more : (xs : List Record) (x : Record) (os : List Open) → opensThrough os (xs ++ (x ∷ [])) ≡ opensAfter (opensThrough os xs) x
+unfolding opensThrough
+opens-one-more xs x os = opens-append xs (x ∷ []) os
 
-    leads-records : (b : Block) (os : List Open) (e : Enclosing) → Leads os e (records b) os e
-    leads-records empty os e = λ q. refl
-    leads-records (work least most rest) os e = leads-first os e (workRecord least most) (records rest) os e (leads-records rest os e)
-    leads-records (loop l body rest) os e =
-        let inside : Enclosing = enter ps l e in
-        let after = subst (λ (x : Enclosing). Leads os x (records rest) os e) (sym (leave-enter l e)) (leads-records rest os e) in
-        leads-first os e (loopRecord l) (records body ++ (endRecord ∷ records rest)) os e
-        (leads-join (openLoop ∷ os) inside (records body) (openLoop ∷ os) inside (endRecord ∷ records rest) os e
-        (leads-records body (openLoop ∷ os) inside) (leads-first (openLoop ∷ os) inside endRecord (records rest) os e after))
-    leads-records (choice arms rest) os e =
-        leads-first os e choiceRecord (armsRecords arms ++ (endRecord ∷ records rest)) os e
-        (leads-join (openChoice ∷ os) e (armsRecords arms) (openChoice ∷ os) e (endRecord ∷ records rest) os e
-        (leads-arms arms os e) (leads-first (openChoice ∷ os) e endRecord (records rest) os e (leads-records rest os e)))
+pub loops-append : (xs ys : List Record) (n : ℕ) → loopsThrough n (xs ++ ys) ≡ loopsThrough (loopsThrough n xs) ys
+unfolding loopsThrough
+loops-append [] ys n = refl
+loops-append (x ∷ xs) ys n = loops-append xs ys (loopsAfter n x)
 
-    leads-arms : (arms : Arms) (os : List Open) (e : Enclosing) → Leads (openChoice ∷ os) e (armsRecords arms) (openChoice ∷ os) e
-    leads-arms (lastArm b) os e = leads-records b (openChoice ∷ os) e
-    leads-arms (arm b arms) os e =
-        leads-join (openChoice ∷ os) e (records b) (openChoice ∷ os) e (nextArmRecord ∷ armsRecords arms) (openChoice ∷ os) e
-        (leads-records b (openChoice ∷ os) e) (leads-first (openChoice ∷ os) e nextArmRecord (armsRecords arms) (openChoice ∷ os) e (leads-arms arms os e))
+pub loops-grow : (rs : List Record) (n : ℕ) → n ≤ loopsThrough n rs
+unfolding loopsThrough loopsAfter
+loops-grow [] n = omega arith
+loops-grow (workRecord least most ∷ rs) n = loops-grow rs n
+loops-grow (loopRecord l ∷ rs) n = omega (arith, loops-grow rs (suc n))
+loops-grow (endRecord ∷ rs) n = loops-grow rs n
+loops-grow (choiceRecord ∷ rs) n = loops-grow rs n
+loops-grow (nextArmRecord ∷ rs) n = loops-grow rs n
 
-  -- The facts of a tree's records do not depend on what follows, nor those of what follows on the tree.
-  pub facts-records : (b : Block) (os : List Open) (e : Enclosing) (q : List Record) →
-      factsFrom ps os e (records b ++ q) ≡ factsFrom ps os e (records b) ++ factsFrom ps os e q
-  unfolding Leads
-  facts-records b os e q = leads-records b os e q
+pub numbers-append : (xs ys : List Record) (n : ℕ) (ns : List ℕ) → numbersThrough n ns (xs ++ ys) ≡ numbersThrough (n + length xs) (numbersThrough n ns xs) ys
+unfolding numbersThrough
+numbers-append [] ys n ns = ap (λ (m : ℕ). numbersThrough m ns ys) (let e : n ≡ n + 0 = omega arith in e)
+numbers-append (x ∷ xs) ys n ns =
+    numbers-append xs ys (suc n) (numbersAfter n ns x)
+    ∙ ap (λ (m : ℕ). numbersThrough m (numbersThrough (suc n) (numbersAfter n ns x) xs) ys) (let e : suc n + length xs ≡ n + suc (length xs) = omega arith in e)
 
-  pub facts-arms : (arms : Arms) (os : List Open) (e : Enclosing) (q : List Record) →
-      factsFrom ps (openChoice ∷ os) e (armsRecords arms ++ q) ≡ factsFrom ps (openChoice ∷ os) e (armsRecords arms) ++ factsFrom ps (openChoice ∷ os) e q
-  unfolding Leads
-  facts-arms arms os e q = leads-arms arms os e q
+pub numbers-one-more : (xs : List Record) (x : Record) (n : ℕ) (ns : List ℕ) →
+    numbersThrough n ns (xs ++ (x ∷ [])) ≡ numbersAfter (n + length xs) (numbersThrough n ns xs) x
+unfolding numbersThrough
+numbers-one-more xs x n ns = numbers-append xs (x ∷ []) n ns
 
-  -- those of a loop's body, and of what follows its end
-  pub facts-loop : (l : Loop) (body : Block) (os : List Open) (e : Enclosing) (q : List Record) →
-      factsFrom ps (openLoop ∷ os) (enter ps l e) (records body ++ (endRecord ∷ q))
-      ≡ factsFrom ps (openLoop ∷ os) (enter ps l e) (records body) ++ (none ∷ factsFrom ps os e q)
-  unfolding factsFrom factsAt opensAfter enclosingAfter
-  facts-loop l body os e q =
-      facts-records body (openLoop ∷ os) (enter ps l e) (endRecord ∷ q)
-      ∙ ap (λ (x : Enclosing). factsFrom ps (openLoop ∷ os) (enter ps l e) (records body) ++ (none ∷ factsFrom ps os x q)) (leave-enter l e)
+opens-balanced : Balanced (λ n. opensAfter)
+unfolding opensAfter
+opens-balanced = record { atWork = λ n os least most. refl; atNextArm = λ n os. refl; atLoop = λ n m os l. refl; atChoice = λ n m os. refl }
 
-  -- those of a choice's arms, and of what follows its end
-  pub facts-choice : (arms : Arms) (os : List Open) (e : Enclosing) (q : List Record) →
-      factsFrom ps (openChoice ∷ os) e (armsRecords arms ++ (endRecord ∷ q)) ≡ factsFrom ps (openChoice ∷ os) e (armsRecords arms) ++ (none ∷ factsFrom ps os e q)
-  unfolding factsFrom factsAt opensAfter enclosingAfter
-  facts-choice arms os e q = facts-arms arms os e (endRecord ∷ q)
+numbers-balanced : Balanced numbersAfter
+unfolding numbersAfter
+numbers-balanced = record { atWork = λ n ns least most. refl; atNextArm = λ n ns. refl; atLoop = λ n m ns l. refl; atChoice = λ n m ns. refl }
 
-  -- the facts inside a loop, found by its end
-  pub facts-inside : (l : Loop) (body : Block) (os : List Open) (e : Enclosing) (q : List Record) →
-      take (recordsInside zero (records body ++ (endRecord ∷ q))) (factsFrom ps (openLoop ∷ os) (enter ps l e) (records body ++ (endRecord ∷ q)))
-      ≡ factsFrom ps (openLoop ∷ os) (enter ps l e) (records body)
-  facts-inside l body os e q =
-      let inside : List (Option LoopFacts) = factsFrom ps (openLoop ∷ os) (enter ps l e) (records body) in
-      ap₂ take (recordsInside-body body q ∙ sym (facts-length (openLoop ∷ os) (enter ps l e) (records body))) (facts-loop l body os e q)
-      ∙ take-append inside (none ∷ factsFrom ps os e q)
+through-opens : (rs : List Record) (n : ℕ) (os : List Open) → through (λ m. opensAfter) n os rs ≡ opensThrough os rs
+unfolding through opensThrough
+through-opens [] n os = refl
+through-opens (r ∷ rs) n os = through-opens rs (suc n) (opensAfter os r)
+
+through-numbers : (rs : List Record) (n : ℕ) (ns : List ℕ) → through numbersAfter n ns rs ≡ numbersThrough n ns rs
+unfolding through numbersThrough
+through-numbers [] n ns = refl
+through-numbers (r ∷ rs) n ns = through-numbers rs (suc n) (numbersAfter n ns r)
+
+-- a tree's records leave all this as it was
+pub opens-records : (b : Block) (os : List Open) → opensThrough os (records b) ≡ os
+opens-records b os = sym (through-opens (records b) 0 os) ∙ through-records (λ m. opensAfter) opens-balanced b 0 os
+
+pub numbers-records : (b : Block) (n : ℕ) (ns : List ℕ) → numbersThrough n ns (records b) ≡ ns
+numbers-records b n ns = sym (through-numbers (records b) n ns) ∙ through-records numbersAfter numbers-balanced b n ns

@@ -1,9 +1,4 @@
+pub mod Walk
 pub mod Rows
-pub mod Slopes
-pub mod Plan
-pub mod Sheets
-pub mod Steps
-pub mod Facts
-pub mod Stored
-pub mod Answers
-pub mod Reports
+pub mod Roles
+pub mod Known

@@ -5,6 +5,7 @@ use mathlib.Core.Bool.{Bool, true, false}
 use mathlib.Core.Logic.{_⊎_, inl, inr, ⊎-elim}
 use mathlib.Core.Option.{Option, none, some}
 use Prim.Native.Nat.{ℕ, suc, _+_, _-_, _<_, _≤_}
+use native.Mathlib.Nat.{add-sub-cancel-left}
 use native.Mathlib.Numerals.{add-one}
 use native.Mathlib.Omega.{arith}
 use borrow.Author.Tests.{le-leb, lt-leb, leb-true, leb-false}
@@ -22,8 +23,8 @@ use Rattle.sheet.specs.declared.head.HeadAnswer.{HeadAnswer}
 use Rattle.sheet.specs.declared.head.HeadAnswer.the-variants.{Found, End, Refused}
 use Rattle.sheet.specs.declared.refusal.Refusal.{Refusal}
 use Rattle.sheet.specs.Answers.{headResult}
-use Rattle.sheet.specs.View.{lengthOf, lengthOfKind}
-use Rattle.sheet.proofs.ByKind.{by-kind}
+use Rattle.records.specs.View.{lengthOf, lengthOfKind}
+use Rattle.records.proofs.ByKind.{by-kind}
 
 -- ---- the kind of a number
 
@@ -68,24 +69,23 @@ module _ (sheet : List ℕ) (at : ℕ) where
     unfolding headAt
     there = ap (headOf at) (drop-cons sheet at 0 inside)
 
+    -- the head with a body of this length
+    abbrev with-body : ℕ → Result (Option Head)
+    with-body n = require (leb n (length rest)) 1 at (ok (some (record { kindNumber = kind; bodyOffset = at + 1; bodyLength = n })))
+
     -- the head where the number's kind is found to be k
-    with-kind : (k : Option Kind) → kindOf kind ≡ k → headAt sheet at
-        ≡ andThen (orRefuse k 2 at) λ x. require (leb (bodyLength x) (length rest)) 1 at (ok (some (record { kindNumber = kind; bodyOffset = at + 1; bodyLength = bodyLength x })))
+    with-kind : {k : Option Kind} → kindOf kind ≡ k → headAt sheet at ≡ andThen (orRefuse k 2 at) λ x. with-body (bodyLength x)
     unfolding headOf
-    with-kind k e =
-        there ∙ ap (λ (o : Option Kind). andThen (orRefuse o 2 at) λ x. require (leb (bodyLength x) (length rest)) 1 at (ok (some (record { kindNumber = kind; bodyOffset = at + 1; bodyLength = bodyLength x })))) e
+    with-kind e = there ∙ ap (λ (o : Option Kind). andThen (orRefuse o 2 at) λ x. with-body (bodyLength x)) e
 
     pub head-no-kind : (0 < kind → kind < 6 → ⊥) → refused 2 at ≡ headAt sheet at
     unfolding andThen orRefuse
-    head-no-kind h = sym (with-kind none (no-kind kind h))
+    head-no-kind h = sym (with-kind (no-kind kind h))
 
-    module _ (n : ℕ) (long : n ≡ lengthOfKind kind) (above : 0 < kind) (below : kind < 6) where
-      with-length : headAt sheet at ≡ require (leb n (length rest)) 1 at (ok (some (record { kindNumber = kind; bodyOffset = at + 1; bodyLength = n })))
+    module _ {n : ℕ} (long : n ≡ lengthOfKind kind) (above : 0 < kind) (below : kind < 6) where
+      with-length : headAt sheet at ≡ with-body n
       unfolding andThen orRefuse
-      with-length =
-          let k = some-kind kind above below in
-          with-kind (some (k .0)) (k .1)
-          ∙ ap (λ (m : ℕ). require (leb m (length rest)) 1 at (ok (some (record { kindNumber = kind; bodyOffset = at + 1; bodyLength = m })))) (sym (long ∙ k .2))
+      with-length = let k = some-kind kind above below in with-kind (k .1) ∙ ap with-body (sym (long ∙ k .2))
 
       pub head-short : length sheet - at - 1 < n → refused 1 at ≡ headAt sheet at
       unfolding require
@@ -120,7 +120,7 @@ le-or-lt m n = go (leb m n) refl
     go false e = inr (leb-false m n e)
 
 -- a record stands at an offset: its kind is named there, its body follows and is in the sheet
-pub record Stands (sheet : List ℕ) (at : ℕ) (h : Head) : Type 0 where
+pub record HeadStands (sheet : List ℕ) (at : ℕ) (h : Head) : Type 0 where
   pub inside : at < length sheet
   pub number : h .kindNumber ≡ getD sheet at 0
   pub offset : h .bodyOffset ≡ at + 1
@@ -129,12 +129,12 @@ pub record Stands (sheet : List ℕ) (at : ℕ) (h : Head) : Type 0 where
   pub long : h .bodyLength ≡ bodyLength kind
   pub fits : h .bodyOffset + h .bodyLength ≤ length sheet
 
-pub head-stands : (sheet : List ℕ) (at : ℕ) (h : Head) → headAt sheet at ≡ ok (some h) → Stands sheet at h
+pub head-stands : (sheet : List ℕ) (at : ℕ) {h : Head} → headAt sheet at ≡ ok (some h) → HeadStands sheet at h
 unfolding headOf
-head-stands sheet at h e = go (le-or-lt (length sheet) at)
+head-stands sheet at {h} e = go (le-or-lt (length sheet) at)
   where
-    go : (length sheet ≤ at) ⊎ (at < length sheet) → Stands sheet at h
-    go (inl n) = absurd (let z : _≡_ {A = Result (Option Head)} (ok none) (ok (some h)) = head-end sheet at n ∙ e in let w : _≡_ {A = ℕ} 0 1 = cc in omega arith)
+    go : (length sheet ≤ at) ⊎ (at < length sheet) → HeadStands sheet at h
+    go (inl n) = none-is-not-some (ok-injective (head-end sheet at n ∙ e))
     go (inr i) =
         let n = andThen-ok (orRefuse (kindOf (getD sheet at 0)) 2 at) _ (some h) (sym (there sheet at i) ∙ e) in
         let b = require-ok (leb (bodyLength (n .0)) (length (drop (suc at) sheet))) 1 at _ (some h) (n .2) in
@@ -152,42 +152,36 @@ head-stands sheet at h e = go (le-or-lt (length sheet) at)
 
 -- ---- the body
 
-module _ (sheet : List ℕ) (at : ℕ) where
-  pub body-found : (h : Head) → headAt sheet at ≡ ok (some h) → bodyAt sheet at ≡ take (h .bodyLength) (drop (h .bodyOffset) sheet)
-  unfolding bodyAt bodyOf
-  body-found h e = ap (bodyOf sheet) e
-
-  pub body-end : headAt sheet at ≡ ok none → bodyAt sheet at ≡ []
-  unfolding bodyAt bodyOf
-  body-end e = ap (bodyOf sheet) e
-
-  pub body-refused : (number place : ℕ) → headAt sheet at ≡ refused number place → bodyAt sheet at ≡ []
-  unfolding bodyAt bodyOf
-  body-refused number place e = ap (bodyOf sheet) e
+body-found : (sheet : List ℕ) (at : ℕ) {h : Head} → headAt sheet at ≡ ok (some h) → bodyAt sheet at ≡ take (h .bodyLength) (drop (h .bodyOffset) sheet)
+unfolding bodyAt bodyOf
+body-found sheet at e = ap (bodyOf sheet) e
 
 -- ---- the code's answer
 
 abbrev pub headIn : D.Head → Head
 headIn h = record { kindNumber = h .kind; bodyOffset = h .offset; bodyLength = h .length }
 
-module _ (sheet : List ℕ) (at : ℕ) (a : HeadAnswer) (found : headResult a ≡ headAt sheet at) where
-  pub answer-found : (h : D.Head) → a ≡ Found h → headAt sheet at ≡ ok (some (headIn h))
-  answer-found h e = sym found ∙ ap headResult e
+module _ (sheet : List ℕ) (at : ℕ) {a : HeadAnswer} (found : headResult a ≡ headAt sheet at) where
+  pub answer-found : {h : D.Head} → a ≡ Found h → headAt sheet at ≡ ok (some (headIn h))
+  answer-found e = sym found ∙ ap headResult e
 
-  pub answer-refused : (r : Refusal) → a ≡ Refused r → headAt sheet at ≡ refused (r .number) (r .offset)
-  answer-refused r e = sym found ∙ ap headResult e
+  pub answer-refused : {r : Refusal} → a ≡ Refused r → headAt sheet at ≡ refused (r .number) (r .offset)
+  answer-refused e = sym found ∙ ap headResult e
 
   pub answer-end : a ≡ End → headAt sheet at ≡ ok none
   answer-end e = sym found ∙ ap headResult e
 
-  pub answer-stands : (h : D.Head) → a ≡ Found h → Stands sheet at (headIn h)
-  answer-stands h e = head-stands sheet at (headIn h) (answer-found h e)
+  pub answer-stands : {h : D.Head} → a ≡ Found h → HeadStands sheet at (headIn h)
+  answer-stands e = head-stands sheet at (answer-found e)
 
-  -- the arm for the other two variants
-  pub answer-none : OneOf (1 ∷ 2 ∷ []) (tagOf the-type a) → [] ≡ bodyAt sheet at
-  answer-none = go a found
-    where
-      go : (x : HeadAnswer) → headResult x ≡ headAt sheet at → OneOf (1 ∷ 2 ∷ []) (tagOf the-type x) → [] ≡ bodyAt sheet at
-      go (Found h) e k = absurd (⊎-elim (λ p. omega arith) (λ p. omega arith) k)
-      go End e k = sym (body-end sheet at (sym e))
-      go (Refused r) e k = sym (body-refused sheet at (r .number) (r .offset) (sym e))
+  -- the part of the sheet that the code takes is the record's body
+  pub answer-body : {h : D.Head} → a ≡ Found h → take (h .offset + h .length - h .offset) (drop (h .offset) sheet) ≡ bodyAt sheet at
+  answer-body {h} e =
+      ap (λ (n : ℕ). take n (drop (h .offset) sheet)) (add-sub-cancel-left (h .offset) (h .length)) ∙ sym (body-found sheet at (answer-found e))
+
+-- the arm for the other two variants
+pub answer-none : (sheet : List ℕ) (at : ℕ) (a : HeadAnswer) → headResult a ≡ headAt sheet at → OneOf (1 ∷ 2 ∷ []) (tagOf the-type a) → [] ≡ bodyAt sheet at
+unfolding bodyAt bodyOf
+answer-none sheet at (Found h) e k = absurd (⊎-elim (λ p. omega arith) (λ p. omega arith) k)
+answer-none sheet at End e k = ap (bodyOf sheet) e
+answer-none sheet at (Refused r) e k = ap (bodyOf sheet) e

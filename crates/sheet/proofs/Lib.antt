@@ -1,8 +1,7 @@
-pub mod ByKind
 pub mod Heads
-pub mod Ranges
 pub mod Openings
 pub mod OneRecord
 pub mod Reading
+pub mod SheetRecords
 pub mod Decoding
 pub mod WrittenBack

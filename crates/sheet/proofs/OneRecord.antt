@@ -11,17 +11,18 @@ use lib.Seq.{length-take-le}
 use lib.Dec.{leb}
 use Rattle.meaning.specs.Limits.{costLimit, strideLimit}
 use Rattle.meaning.specs.Form.{formInRange}
-use Rattle.meaning.specs.Record.{Kind, workKind, loopKind, endKind, choiceKind, nextArmKind, kindOf, bodyLength, recordLength, kind, Record, workRecord, loopRecord, endRecord, choiceRecord, nextArmRecord, decodeRecord, Open, openLoop, loopDepth, fieldsInRange, openAfter}
+use Rattle.meaning.specs.Record.{Kind, workKind, loopKind, endKind, choiceKind, nextArmKind, kindOf, bodyLength, recordLength, kind, decodeRecord}
+use Rattle.meaning.specs.Record.{Record, workRecord, loopRecord, endRecord, choiceRecord, nextArmRecord, Open, openLoop, loopDepth, fieldsInRange, openAfter}
 use Rattle.meaning.specs.Reader.{Result, ok, refused, require, orRefuse, andThen, Accepted, accept, readRecord, Head, headOf, headAt}
-use Rattle.meaning.proofs.Logic.{refused-is-not-ok}
+use Rattle.meaning.proofs.Logic.{refused-is-not-ok, true-is-not-false}
 use Rattle.meaning.proofs.Accepted.{kind-decodeRecord}
 use Rattle.meaning.proofs.RoundTrip.{readRecord-accept}
 use Rattle.sheet.specs.declared.nesting.Nesting.{Nesting}
-use Rattle.sheet.specs.declared.nesting.Passed.{Passed}
+use Rattle.sheet.specs.declared.nesting.AcceptedRecord.{AcceptedRecord}
 use Rattle.sheet.specs.Nestings.{nestingOf, fieldsPassAs, fieldsPass, openAfterAs, openAfterKind, isThere, mayStand, nestingAfter, mayStandIn}
-use Rattle.sheet.specs.Answers.{stepOf, acceptIn}
+use Rattle.sheet.specs.Answers.{acceptedOf, acceptIn}
 use Rattle.sheet.proofs.Openings.{depth-is, after-is, may-stand-is}
-use Rattle.sheet.proofs.Heads.{head-there, Stands}
+use Rattle.sheet.proofs.Heads.{head-there, HeadStands}
 
 -- ---- refusals 3 and 5
 
@@ -34,48 +35,50 @@ open-by-kind os endKind body = refl
 open-by-kind os choiceKind body = refl
 open-by-kind os nextArmKind body = refl
 
-module _ (at : ℕ) (os : List Open) (kindByte : ℕ) (k : Kind) (named : kindOf kindByte ≡ some k) (body : List ℕ) where
-  abbrev result : Result Passed
-  result = stepOf (accept at os (decodeRecord k body))
+module _ (at : ℕ) (os : List Open) (kindByte : ℕ) {k : Kind} (is : kindOf kindByte ≡ some k) (body : List ℕ) where
+  abbrev result : Result AcceptedRecord
+  result = acceptedOf (accept at os (decodeRecord k body))
 
   -- the tests by the kind's number are those of the record
   fields-by-number : fieldsInRange os (decodeRecord k body) ≡ fieldsPass os kindByte body
   unfolding fieldsPass fieldsPassAs
-  fields-by-number = sym (ap (fieldsPassAs os body) named)
+  fields-by-number = sym (ap (fieldsPassAs os body) is)
 
   opens-by-number : openAfter os (decodeRecord k body) ≡ openAfterKind os kindByte
   unfolding openAfterKind openAfterAs
-  opens-by-number = open-by-kind os k body ∙ sym (ap (openAfterAs os) named)
+  opens-by-number = open-by-kind os k body ∙ sym (ap (openAfterAs os) is)
+
+  with-tests : {f : Bool} {o : Option (List Open)} → f ≡ fieldsPass os kindByte body → openAfterKind os kindByte ≡ o → accept at os (decodeRecord k body)
+      ≡ require f 3 at (andThen (orRefuse o 5 at) λ after. ok (record { accepted = decodeRecord k body; after = after }))
+  unfolding accept
+  with-tests f e =
+      λ i. require ((fields-by-number ∙ sym f) i) 3 at
+      (andThen (orRefuse ((opens-by-number ∙ e) i) 5 at) λ after. ok (record { accepted = decodeRecord k body; after = after }))
 
   refused-3 : false ≡ fieldsPass os kindByte body → refused 3 at ≡ result
-  unfolding accept require stepOf
-  refused-3 f =
-      sym (ap (λ (b : Bool). stepOf (require b 3 at (andThen (orRefuse (openAfter os (decodeRecord k body)) 5 at) λ after. ok (record { accepted = decodeRecord k body; after = after })))) (fields-by-number ∙ sym f))
+  unfolding require acceptedOf
+  refused-3 f = sym (ap acceptedOf (with-tests f refl))
 
   module _ (f : true ≡ fieldsPass os kindByte body) where
-    with-open : (o : Option (List Open)) → openAfterKind os kindByte ≡ o → accept at os (decodeRecord k body)
-        ≡ andThen (orRefuse o 5 at) λ after. ok (record { accepted = decodeRecord k body; after = after })
-    unfolding accept require
-    with-open o e =
-        λ i. require ((fields-by-number ∙ sym f) i) 3 at (andThen (orRefuse ((opens-by-number ∙ e) i) 5 at) λ after. ok (record { accepted = decodeRecord k body; after = after }))
-
     refused-5 : false ≡ mayStand os kindByte → refused 5 at ≡ result
-    unfolding mayStand isThere
+    unfolding mayStand isThere require andThen orRefuse acceptedOf
     refused-5 m = go (openAfterKind os kindByte) refl
       where
         go : (o : Option (List Open)) → openAfterKind os kindByte ≡ o → refused 5 at ≡ result
-        go (some us) e = absurd (let z : false ≡ true = m ∙ ap isThere e in let w : _≡_ {A = ℕ} 0 1 = cc in omega arith)
-        go none e = unfold andThen orRefuse stepOf in sym (ap stepOf (with-open none e))
+        go (some us) e = true-is-not-false (sym (m ∙ ap isThere e))
+        go none e = sym (ap acceptedOf (with-tests f e))
 
-    accepted-step : true ≡ mayStand os kindByte → (n : Nesting) → ((us : List Open) → openAfterKind os kindByte ≡ some us → n ≡ nestingOf us) → length body ≡ bodyLength k →
-        ok (record { length = 1 + length body; after = n }) ≡ result
-    unfolding mayStand isThere
-    accepted-step m n after long = go (openAfterKind os kindByte) refl
+    accepted-record : true ≡ mayStand os kindByte → (n : Nesting)
+        → ((us : List Open) → openAfterKind os kindByte ≡ some us → n ≡ nestingOf us) → length body ≡ bodyLength k
+        → ok (record { length = 1 + length body; after = n }) ≡ result
+    unfolding mayStand isThere require andThen orRefuse acceptedOf recordLength
+    accepted-record m n after long = go (openAfterKind os kindByte) refl
       where
         go : (o : Option (List Open)) → openAfterKind os kindByte ≡ o → ok (record { length = 1 + length body; after = n }) ≡ result
-        go none e = absurd (let z : true ≡ false = m ∙ ap isThere e in let w : _≡_ {A = ℕ} 0 1 = cc in omega arith)
-        go (some us) e = unfold andThen orRefuse stepOf recordLength in
-            (λ i. ok (record { length = 1 + (long ∙ ap bodyLength (sym (kind-decodeRecord k body))) i; after = after us e i })) ∙ sym (ap stepOf (with-open (some us) e))
+        go none e = true-is-not-false (m ∙ ap isThere e)
+        go (some us) e =
+            (λ i. ok (record { length = 1 + (long ∙ ap bodyLength (sym (kind-decodeRecord k body))) i; after = after us e i }))
+            ∙ sym (ap acceptedOf (with-tests f e))
 
 -- the same by the three numbers
 
@@ -89,7 +92,8 @@ range-by-depth : (os us : List Open) → loopDepth os ≡ loopDepth us → (r : 
 unfolding fieldsInRange
 range-by-depth os us e (workRecord least most) = refl
 range-by-depth os us e (loopRecord l) =
-    λ i. leb (l .start) costLimit && leb (l .step) costLimit && leb 1 (l .stride) && leb (l .stride) strideLimit && formInRange (e i) (l .lower) && formInRange (e i) (l .upper)
+    λ i. leb (l .start) costLimit && leb (l .step) costLimit && leb 1 (l .stride) && leb (l .stride) strideLimit
+    && formInRange (e i) (l .lower) && formInRange (e i) (l .upper)
 range-by-depth os us e endRecord = refl
 range-by-depth os us e choiceRecord = refl
 range-by-depth os us e nextArmRecord = refl
@@ -98,7 +102,7 @@ module _ (at : ℕ) (here : Nesting) (kindByte : ℕ) (body : List ℕ) where
   abbrev fields : Bool
   fields = fieldsPass (replicate (here .depth) openLoop) kindByte body
 
-  abbrev passed : Result Passed
+  abbrev passed : Result AcceptedRecord
   passed = ok (record { length = 1 + length body; after = nestingAfter here kindByte })
 
   pub number-3 : false ≡ fields → refused 3 at ≡ acceptIn at here kindByte body
@@ -109,29 +113,29 @@ module _ (at : ℕ) (here : Nesting) (kindByte : ℕ) (body : List ℕ) where
   unfolding acceptIn require
   number-5 f m = λ i. require (f i) 3 at (require (m i) 5 at passed)
 
-  pub number-none : true ≡ fields → true ≡ mayStandIn here kindByte → (n : Nesting) → n ≡ nestingAfter here kindByte →
+  pub number-none : true ≡ fields → true ≡ mayStandIn here kindByte → {n : Nesting} → n ≡ nestingAfter here kindByte →
       ok (record { length = 1 + length body; after = n }) ≡ acceptIn at here kindByte body
   unfolding acceptIn require
-  number-none f m n a = λ i. require (f i) 3 at (require (m i) 5 at (ok (record { length = 1 + length body; after = a i })))
+  number-none f m a = λ i. require (f i) 3 at (require (m i) 5 at (ok (record { length = 1 + length body; after = a i })))
 
-  by-depth : (os : List Open) (k : Kind) → here ≡ nestingOf os → kindOf kindByte ≡ some k → fields ≡ fieldsPass os kindByte body
+  by-depth : (os : List Open) {k : Kind} → here ≡ nestingOf os → kindOf kindByte ≡ some k → fields ≡ fieldsPass os kindByte body
   unfolding fieldsPass fieldsPassAs
-  by-depth os k e named =
-      ap (fieldsPassAs (replicate (here .depth) openLoop) body) named
-      ∙ range-by-depth (replicate (here .depth) openLoop) os (loops-around (here .depth) ∙ depth-is here os e) (decodeRecord k body)
-      ∙ sym (ap (fieldsPassAs os body) named)
+  by-depth os {k} e is =
+      ap (fieldsPassAs (replicate (here .depth) openLoop) body) is
+      ∙ range-by-depth (replicate (here .depth) openLoop) os (loops-around (here .depth) ∙ depth-is os e) (decodeRecord k body)
+      ∙ sym (ap (fieldsPassAs os body) is)
 
   -- where the numbers are those of what is open, it is what the meaning accepts
   pub accept-is : (os : List Open) (k : Kind) → here ≡ nestingOf os → kindOf kindByte ≡ some k → length body ≡ bodyLength k →
-      acceptIn at here kindByte body ≡ stepOf (accept at os (decodeRecord k body))
+      acceptIn at here kindByte body ≡ acceptedOf (accept at os (decodeRecord k body))
   unfolding acceptIn require
-  accept-is os k e named long = go fields (by-depth os k e named) (mayStandIn here kindByte) (may-stand-is here os e kindByte)
+  accept-is os k e is long = go fields (by-depth os e is) (mayStandIn here kindByte) (may-stand-is os e kindByte)
     where
       go : (f : Bool) → f ≡ fieldsPass os kindByte body → (m : Bool) → m ≡ mayStand os kindByte →
-          require f 3 at (require m 5 at passed) ≡ stepOf (accept at os (decodeRecord k body))
-      go false f m n = refused-3 at os kindByte k named body f
-      go true f false n = refused-5 at os kindByte k named body f n
-      go true f true n = accepted-step at os kindByte k named body f n (nestingAfter here kindByte) (λ us a. after-is here os us e kindByte a) long
+          require f 3 at (require m 5 at passed) ≡ acceptedOf (accept at os (decodeRecord k body))
+      go false f m n = refused-3 at os kindByte is body f
+      go true f false n = refused-5 at os kindByte is body f n
+      go true f true n = accepted-record at os kindByte is body f n (nestingAfter here kindByte) (λ us a. after-is os e kindByte a) long
 
 -- ---- refusals 2 and 1
 
@@ -152,14 +156,15 @@ module _ (sheet : List ℕ) (at : ℕ) (os : List Open) where
   abbrev whole : Result Accepted
   whole = readRecord at os (getD sheet at 0) (drop (at + 1) sheet)
 
-  pub read-refused : at < length sheet → (number place : ℕ) → headAt sheet at ≡ refused number place → refused number place ≡ stepOf whole
-  unfolding headOf readRecord stepOf
-  read-refused inside number place e =
+  pub read-refused : at < length sheet → {number place : ℕ} → headAt sheet at ≡ refused number place → refused number place ≡ acceptedOf whole
+  unfolding headOf readRecord acceptedOf
+  read-refused inside {number} {place} e =
       let bytes : List ℕ = drop (at + 1) sheet in
-      sym (ap stepOf (refused-alike (kindOf (getD sheet at 0)) (λ k. leb (bodyLength k) (length bytes)) _ (λ k. accept at os (decodeRecord k (take (bodyLength k) bytes))) at number place (sym (head-there sheet at inside) ∙ e)))
+      sym (ap acceptedOf (refused-alike (kindOf (getD sheet at 0)) (λ k. leb (bodyLength k) (length bytes)) _
+      (λ k. accept at os (decodeRecord k (take (bodyLength k) bytes))) at number place (sym (head-there sheet at inside) ∙ e)))
 
   -- the part of the sheet that a head names is its record's body
-  module _ (h : Head) (s : Stands sheet at h) where
+  module _ {h : Head} (s : HeadStands sheet at h) where
     abbrev part : List ℕ
     part = take (h .bodyOffset + h .bodyLength - h .bodyOffset) (drop (h .bodyOffset) sheet)
 

@@ -9,12 +9,14 @@ use native.Mathlib.Nat.{pow-suc}
 use native.Mathlib.Omega.{arith}
 use borrow.Author.Tests.{ltb-true, lt-ltb, le-ltb, le-leb, lt-leb, ne-eqb, eq-eqb}
 use lib.ListN.{length}
-use lib.Dec.{T, leb, ltb, eqb}
+use lib.Dec.{leb, ltb, eqb}
+use Rattle.meaning.specs.Limits.{depthLimit, openLimit}
 use Rattle.meaning.specs.Record.{Kind, kindOf, decodeRecord, Open, openLoop, openChoice, loopDepth, openAfter}
-use Rattle.meaning.proofs.Logic.{T-and, T→true}
+use Rattle.meaning.proofs.Logic.{T-and, T→true, none-is-not-some, test-passed}
 use Rattle.sheet.specs.declared.nesting.Nesting.{Nesting}
-use Rattle.sheet.specs.Nestings.{loopDigit, loopBits, nestingOf, openAfterAs, openAfterKind, isThere, mayStand, openedNesting, closedNesting, nestingAfterAs, nestingAfter, mayStandInAs, mayStandIn}
-use Rattle.sheet.proofs.ByKind.{by-kind}
+use Rattle.sheet.specs.Nestings.{loopDigit, loopBits, nestingOf, openAfterAs, openAfterKind, isThere, mayStand}
+use Rattle.sheet.specs.Nestings.{extendedNesting, closedNesting, nestingAfterAs, nestingAfter, mayStandInAs, mayStandIn}
+use Rattle.records.proofs.ByKind.{by-kind}
 
 -- ---- the numbers of what is open
 
@@ -36,7 +38,7 @@ unfolding loopDigit loopDepth
 depth-one-more openLoop os = omega arith
 depth-one-more openChoice os = omega arith
 
-depth-at-most : (os : List Open) → loopDepth os ≤ length os
+pub depth-at-most : (os : List Open) → loopDepth os ≤ length os
 depth-at-most [] = unfold loopDepth in omega arith
 depth-at-most (o ∷ os) = omega (arith, depth-one-more o os, digit-small o, depth-at-most os)
 
@@ -48,7 +50,7 @@ bits-below zero (o ∷ os) h = absurd (omega arith)
 bits-below (suc n) (o ∷ os) h = omega (arith, bits-below n os (omega arith), digit-small o, pow-suc 2 n)
 
 -- a nesting is the one of os: its three numbers are
-module _ (n : Nesting) (os : List Open) (e : n ≡ nestingOf os) where
+module _ {n : Nesting} (os : List Open) (e : n ≡ nestingOf os) where
   pub size-is : n .size ≡ length os
   unfolding nestingOf
   size-is = ap (λ (m : Nesting). m .size) e
@@ -68,29 +70,30 @@ nesting-equal n os p q r = λ i. record { size = p i; depth = q i; loops = r i }
 -- one more open record
 module _ (n : Nesting) (digit : ℕ) where
   abbrev more : Nesting
-  more = record { size = n .size + 1; depth = n .depth + digit; loops = n .loops % 128 * 2 + digit }
+  more = record { size = n .size + 1; depth = n .depth + digit; loops = n .loops % 2 ^ (openLimit - 1) * 2 + digit }
 
-  pub opened-same : (8 ≤ n .size) ⊎ (8 ≤ n .depth) → n ≡ openedNesting n digit
-  unfolding openedNesting
-  opened-same =
-      ⊎-elim (λ h. sym (λ i. cond (le-leb 8 (n .size) h i || leb 8 (n .depth)) n more))
-      (λ h. sym ((λ i. cond (leb 8 (n .size) || le-leb 8 (n .depth) h i) n more) ∙ ap (λ (b : Bool). cond b n more) (or-true (leb 8 (n .size)))))
+  pub extended-same : (openLimit ≤ n .size) ⊎ (openLimit ≤ n .depth) → n ≡ extendedNesting n digit
+  unfolding extendedNesting
+  extended-same =
+      ⊎-elim (λ h. sym (λ i. cond (le-leb openLimit (n .size) h i || leb openLimit (n .depth)) n more))
+      (λ h. sym ((λ i. cond (leb openLimit (n .size) || le-leb openLimit (n .depth) h i) n more)
+      ∙ ap (λ (b : Bool). cond b n more) (or-true (leb openLimit (n .size)))))
 
-  pub opened-one : n .size < 8 → n .depth < 8 → more ≡ openedNesting n digit
-  unfolding openedNesting
-  opened-one h d = sym (λ i. cond (lt-leb 8 (n .size) h i || lt-leb 8 (n .depth) d i) n more)
+  pub extended-one : n .size < openLimit → n .depth < openLimit → more ≡ extendedNesting n digit
+  unfolding extendedNesting
+  extended-one h d = sym (λ i. cond (lt-leb openLimit (n .size) h i || lt-leb openLimit (n .depth) d i) n more)
 
-module _ (n : Nesting) (digit : ℕ) (os : List Open) (o : Open) (e : n ≡ nestingOf os) (d : loopDigit o ≡ digit) (room : length os < 8) where
-  opened-more : more n digit ≡ nestingOf (o ∷ os)
+module _ {n : Nesting} {digit : ℕ} (os : List Open) (o : Open) (e : n ≡ nestingOf os) (d : loopDigit o ≡ digit) (room : length os < openLimit) where
+  extended-more : more n digit ≡ nestingOf (o ∷ os)
   unfolding loopBits
-  opened-more =
+  extended-more =
       nesting-equal _ (o ∷ os)
-      (omega (arith, size-is n os e))
-      (omega (arith, depth-is n os e, depth-one-more o os))
-      (omega (arith, loops-is n os e, bits-below 7 os (omega arith)))
+      (omega (arith, size-is os e))
+      (omega (arith, depth-is os e, depth-one-more o os))
+      (omega (arith, loops-is os e, bits-below (openLimit - 1) os (omega arith)))
 
-  opened-is : openedNesting n digit ≡ nestingOf (o ∷ os)
-  opened-is = sym (opened-one n digit (omega (arith, size-is n os e)) (omega (arith, depth-is n os e, depth-at-most os))) ∙ opened-more
+  extended-is : extendedNesting n digit ≡ nestingOf (o ∷ os)
+  extended-is = sym (extended-one n digit (omega (arith, size-is os e)) (omega (arith, depth-is os e, depth-at-most os))) ∙ extended-more
 
 -- the innermost closed
 module _ (n : Nesting) where
@@ -107,96 +110,71 @@ module _ (n : Nesting) where
   unfolding closedNesting
   closed-one h d = sym (λ i. cond (ne-eqb (n .size) 0 h i || le-ltb (n .depth) (n .loops % 2) d i) n fewer)
 
-module _ (n : Nesting) (os : List Open) (o : Open) (e : n ≡ nestingOf (o ∷ os)) where
+module _ {n : Nesting} (os : List Open) (o : Open) (e : n ≡ nestingOf (o ∷ os)) where
   last-digit : n .loops % 2 ≡ loopDigit o
   unfolding loopBits
-  last-digit = omega (arith, loops-is n (o ∷ os) e, digit-small o)
+  last-digit = omega (arith, loops-is (o ∷ os) e, digit-small o)
 
   closed-less : fewer n ≡ nestingOf os
   unfolding loopBits
   closed-less =
       nesting-equal _ os
-      (omega (arith, size-is n (o ∷ os) e))
-      (omega (arith, depth-is n (o ∷ os) e, depth-one-more o os, last-digit))
-      (omega (arith, loops-is n (o ∷ os) e, digit-small o))
+      (omega (arith, size-is (o ∷ os) e))
+      (omega (arith, depth-is (o ∷ os) e, depth-one-more o os, last-digit))
+      (omega (arith, loops-is (o ∷ os) e, digit-small o))
 
   closed-is : closedNesting n ≡ nestingOf os
   closed-is =
-      sym (closed-one n (λ z. omega (arith, size-is n (o ∷ os) e)) (omega (arith, depth-is n (o ∷ os) e, depth-one-more o os, last-digit))) ∙ closed-less
+      sym (closed-one n (λ z. omega (arith, size-is (o ∷ os) e)) (omega (arith, depth-is (o ∷ os) e, depth-one-more o os, last-digit))) ∙ closed-less
 
 -- ---- what is open after a record
 
-some-same : {A : Type 0} {a b : A} → some a ≡ some b → a ≡ b
-some-same e = cc
-
-none-some : {A X : Type 0} {a : A} → none ≡ some a → X
-none-some e = absurd (let z : _≡_ {A = ℕ} 0 1 = cc in omega arith)
-
-opened-only : (b : Bool) (os us : List Open) → cond b (some os) none ≡ some us → T b × (os ≡ us)
-opened-only true os us e = (tt, some-same e)
-opened-only false os us e = none-some e
+some-injective : {A : Type 0} {a b : A} → some a ≡ some b → a ≡ b
+some-injective e = cc
 
 module _ (os us : List Open) where
-  after-loop : openAfterKind os 2 ≡ some us → (length os < 8) × (openLoop ∷ os ≡ us)
+  after-loop : openAfterKind os 2 ≡ some us → (length os < openLimit) × (openLoop ∷ os ≡ us)
   unfolding openAfterKind openAfterAs kindOf decodeRecord openAfter
   after-loop e =
-      let a = opened-only (ltb (loopDepth os) 4 && ltb (length os) 8) (openLoop ∷ os) us e in
-      (ltb-true (length os) 8 (T→true (ltb (length os) 8) (T-and (ltb (loopDepth os) 4) (ltb (length os) 8) (a .0) .1)), a .1)
+      let a = test-passed (ltb (loopDepth os) depthLimit && ltb (length os) openLimit) (openLoop ∷ os) us e in
+      (ltb-true (length os) openLimit (T→true (ltb (length os) openLimit) (T-and (ltb (loopDepth os) depthLimit) (ltb (length os) openLimit) (a .0) .1)), a .1)
 
-  after-choice : openAfterKind os 4 ≡ some us → (length os < 8) × (openChoice ∷ os ≡ us)
+  after-choice : openAfterKind os 4 ≡ some us → (length os < openLimit) × (openChoice ∷ os ≡ us)
   unfolding openAfterKind openAfterAs kindOf decodeRecord openAfter
   after-choice e =
-      let a = opened-only (ltb (length os) 8) (openChoice ∷ os) us e in
-      (ltb-true (length os) 8 (T→true (ltb (length os) 8) (a .0)), a .1)
+      let a = test-passed (ltb (length os) openLimit) (openChoice ∷ os) us e in
+      (ltb-true (length os) openLimit (T→true (ltb (length os) openLimit) (a .0)), a .1)
 
 after-end : (os us : List Open) → openAfterKind os 3 ≡ some us → (o : Open) × (os ≡ o ∷ us)
 unfolding openAfterKind openAfterAs kindOf decodeRecord openAfter
-after-end [] us e = none-some e
-after-end (o ∷ os) us e = (o, ap (λ (x : List Open). o ∷ x) (some-same e))
+after-end [] us e = none-is-not-some e
+after-end (o ∷ os) us e = (o, ap (λ (x : List Open). o ∷ x) (some-injective e))
 
 after-arm : (os us : List Open) → openAfterKind os 5 ≡ some us → os ≡ us
 unfolding openAfterKind openAfterAs kindOf decodeRecord openAfter
-after-arm [] us e = none-some e
-after-arm (openLoop ∷ os) us e = none-some e
-after-arm (openChoice ∷ os) us e = some-same e
+after-arm [] us e = none-is-not-some e
+after-arm (openLoop ∷ os) us e = none-is-not-some e
+after-arm (openChoice ∷ os) us e = some-injective e
 
 -- the numbers after a record are those of what is open after it
-pub after-is : (n : Nesting) (os us : List Open) → n ≡ nestingOf os → (kind : ℕ) → openAfterKind os kind ≡ some us → nestingAfter n kind ≡ nestingOf us
+pub after-is : {n : Nesting} (os : List Open) {us : List Open} → n ≡ nestingOf os → (kind : ℕ) → openAfterKind os kind ≡ some us
+    → nestingAfter n kind ≡ nestingOf us
 unfolding nestingAfter nestingAfterAs openAfterKind openAfterAs kindOf decodeRecord openAfter
-after-is n os us e =
+after-is {n} os {us} e =
     by-kind (λ (m : ℕ) (k : Option Kind). openAfterAs os k ≡ some us → nestingAfterAs n k ≡ nestingOf us)
-    (λ a. e ∙ ap nestingOf (some-same a))
-    (λ a. let h = after-loop os us a in opened-is n 1 os openLoop e digit-loop (h .0) ∙ ap nestingOf (h .1))
-    (λ a. let h = after-end os us a in closed-is n us (h .0) (e ∙ ap nestingOf (h .1)))
-    (λ a. let h = after-choice os us a in opened-is n 0 os openChoice e digit-choice (h .0) ∙ ap nestingOf (h .1))
+    (λ a. e ∙ ap nestingOf (some-injective a))
+    (λ a. let h = after-loop os us a in extended-is os openLoop e digit-loop (h .0) ∙ ap nestingOf (h .1))
+    (λ a. let h = after-end os us a in closed-is us (h .0) (e ∙ ap nestingOf (h .1)))
+    (λ a. let h = after-choice os us a in extended-is os openChoice e digit-choice (h .0) ∙ ap nestingOf (h .1))
     (λ a. e ∙ ap nestingOf (after-arm os us a))
-    (λ m _ a. e ∙ ap nestingOf (some-same a))
+    (λ m _ a. e ∙ ap nestingOf (some-injective a))
 
--- the numbers after a record, by the number of its kind
-module _ (n : Nesting) (kind : ℕ) where
-  pub after-loop-number : kind ≡ 2 → openedNesting n 1 ≡ nestingAfter n kind
-  unfolding nestingAfter nestingAfterAs kindOf
-  after-loop-number k = ap (nestingAfter n) (sym k)
-
-  pub after-choice-number : kind ≡ 4 → openedNesting n 0 ≡ nestingAfter n kind
-  unfolding nestingAfter nestingAfterAs kindOf
-  after-choice-number k = ap (nestingAfter n) (sym k)
-
-  pub after-end-number : kind ≡ 3 → closedNesting n ≡ nestingAfter n kind
-  unfolding nestingAfter nestingAfterAs kindOf
-  after-end-number k = ap (nestingAfter n) (sym k)
-
-  pub after-other-number : (kind ≡ 2 → ⊥) → (kind ≡ 4 → ⊥) → (kind ≡ 3 → ⊥) → n ≡ nestingAfter n kind
-  unfolding nestingAfter nestingAfterAs
-  after-other-number =
-      by-kind (λ (m : ℕ) (k : Option Kind). (m ≡ 2 → ⊥) → (m ≡ 4 → ⊥) → (m ≡ 3 → ⊥) → n ≡ nestingAfterAs n k)
-      (λ _ _ _. refl)
-      (λ h _ _. absurd (h refl))
-      (λ _ _ h. absurd (h refl))
-      (λ _ h _. absurd (h refl))
-      (λ _ _ _. refl)
-      (λ m _ _ _ _. refl)
-      kind
+-- the numbers after a record that opens and closes nothing
+pub after-other : (n : Nesting) {kind : ℕ} → (kind ≡ 2 → ⊥) → (kind ≡ 4 → ⊥) → (kind ≡ 3 → ⊥) → n ≡ nestingAfter n kind
+unfolding nestingAfter nestingAfterAs
+after-other n {kind} =
+    by-kind (λ (m : ℕ) (k : Option Kind). (m ≡ 2 → ⊥) → (m ≡ 4 → ⊥) → (m ≡ 3 → ⊥) → n ≡ nestingAfterAs n k)
+    (λ _ _ _. refl) (λ h _ _. absurd (h refl)) (λ _ _ h. absurd (h refl)) (λ _ h _. absurd (h refl)) (λ _ _ _. refl) (λ m _ _ _ _. refl) kind
 
 -- ---- whether a record may stand
 
@@ -221,43 +199,22 @@ may-arm (openChoice ∷ os) =
     λ i. not (ne-eqb (suc (length os)) 0 (λ e. omega arith) i) && eq-eqb ((2 * loopBits os + 0) % 2) 0 even i
 
 -- by the numbers it may stand where it may by what is open
-pub may-stand-is : (n : Nesting) (os : List Open) → n ≡ nestingOf os → (kind : ℕ) → mayStandIn n kind ≡ mayStand os kind
+pub may-stand-is : {n : Nesting} (os : List Open) → n ≡ nestingOf os → (kind : ℕ) → mayStandIn n kind ≡ mayStand os kind
 unfolding mayStandIn mayStandInAs mayStand isThere openAfterKind openAfterAs kindOf decodeRecord openAfter
-may-stand-is n os e =
+may-stand-is {n} os e =
     by-kind (λ (m : ℕ) (k : Option Kind). mayStandInAs n k ≡ isThere (openAfterAs os k))
     refl
-    ((λ i. ltb (depth-is n os e i) 4 && ltb (size-is n os e i) 8) ∙ sym (there-if (ltb (loopDepth os) 4 && ltb (length os) 8) (openLoop ∷ os)))
-    (ap (λ (x : ℕ). not (eqb x 0)) (size-is n os e) ∙ may-end os)
-    (ap (λ (x : ℕ). ltb x 8) (size-is n os e) ∙ sym (there-if (ltb (length os) 8) (openChoice ∷ os)))
-    ((λ i. not (eqb (size-is n os e i) 0) && eqb (loops-is n os e i % 2) 0) ∙ may-arm os)
+    ((λ i. ltb (depth-is os e i) depthLimit && ltb (size-is os e i) openLimit)
+    ∙ sym (there-if (ltb (loopDepth os) depthLimit && ltb (length os) openLimit) (openLoop ∷ os)))
+    (ap (λ (x : ℕ). not (eqb x 0)) (size-is os e) ∙ may-end os)
+    (ap (λ (x : ℕ). ltb x openLimit) (size-is os e) ∙ sym (there-if (ltb (length os) openLimit) (openChoice ∷ os)))
+    ((λ i. not (eqb (size-is os e i) 0) && eqb (loops-is os e i % 2) 0) ∙ may-arm os)
     (λ m _. refl)
 
--- whether it may stand, by the number of its kind
-module _ (n : Nesting) (kind : ℕ) where
-  pub allows-loop : kind ≡ 2 → ltb (n .depth) 4 && ltb (n .size) 8 ≡ mayStandIn n kind
-  unfolding mayStandIn mayStandInAs kindOf
-  allows-loop k = ap (mayStandIn n) (sym k)
-
-  pub allows-choice : kind ≡ 4 → ltb (n .size) 8 ≡ mayStandIn n kind
-  unfolding mayStandIn mayStandInAs kindOf
-  allows-choice k = ap (mayStandIn n) (sym k)
-
-  pub allows-end : kind ≡ 3 → not (eqb (n .size) 0) ≡ mayStandIn n kind
-  unfolding mayStandIn mayStandInAs kindOf
-  allows-end k = ap (mayStandIn n) (sym k)
-
-  pub allows-arm : kind ≡ 5 → not (eqb (n .size) 0) && eqb (n .loops % 2) 0 ≡ mayStandIn n kind
-  unfolding mayStandIn mayStandInAs kindOf
-  allows-arm k = ap (mayStandIn n) (sym k)
-
-  pub allows-other : (kind ≡ 2 → ⊥) → (kind ≡ 4 → ⊥) → (kind ≡ 3 → ⊥) → (kind ≡ 5 → ⊥) → true ≡ mayStandIn n kind
-  unfolding mayStandIn mayStandInAs
-  allows-other =
-      by-kind (λ (m : ℕ) (k : Option Kind). (m ≡ 2 → ⊥) → (m ≡ 4 → ⊥) → (m ≡ 3 → ⊥) → (m ≡ 5 → ⊥) → true ≡ mayStandInAs n k)
-      (λ _ _ _ _. refl)
-      (λ h _ _ _. absurd (h refl))
-      (λ _ _ h _. absurd (h refl))
-      (λ _ h _ _. absurd (h refl))
-      (λ _ _ _ h. absurd (h refl))
-      (λ m _ _ _ _ _. refl)
-      kind
+-- a work may stand anywhere
+pub allows-other : (n : Nesting) {kind : ℕ} → (kind ≡ 2 → ⊥) → (kind ≡ 4 → ⊥) → (kind ≡ 3 → ⊥) → (kind ≡ 5 → ⊥) → true ≡ mayStandIn n kind
+unfolding mayStandIn mayStandInAs
+allows-other n {kind} =
+    by-kind (λ (m : ℕ) (k : Option Kind). (m ≡ 2 → ⊥) → (m ≡ 4 → ⊥) → (m ≡ 3 → ⊥) → (m ≡ 5 → ⊥) → true ≡ mayStandInAs n k)
+    (λ _ _ _ _. refl) (λ h _ _ _. absurd (h refl)) (λ _ _ h _. absurd (h refl)) (λ _ h _ _. absurd (h refl)) (λ _ _ _ h. absurd (h refl)) (λ m _ _ _ _ _. refl)
+    kind

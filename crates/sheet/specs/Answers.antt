@@ -3,6 +3,7 @@ use mathlib.Core.List.{List, _++_, map}
 use mathlib.Core.Option.{Option, none, some}
 use Prim.Native.Nat.{ℕ, _+_, _-_}
 use lib.ListN.{length, replicate}
+use Rattle.meaning.specs.Limits.{recordLimit}
 use Rattle.meaning.specs.Record as M
 use Rattle.meaning.specs.Record.{recordLength, openLoop}
 use Rattle.meaning.specs.Reader.{Result, ok, refused, require, Accepted, Head}
@@ -11,11 +12,12 @@ use Rattle.sheet.specs.declared.head.HeadAnswer.the-variants as head
 use Rattle.sheet.specs.declared.reader.ReadAnswer.{ReadAnswer}
 use Rattle.sheet.specs.declared.reader.ReadAnswer.the-variants as read
 use Rattle.sheet.specs.declared.nesting.Nesting.{Nesting}
-use Rattle.sheet.specs.declared.nesting.Passed.{Passed}
-use Rattle.sheet.specs.declared.nesting.Step.{Step}
-use Rattle.sheet.specs.declared.nesting.Step.the-variants as step
-use Rattle.sheet.specs.declared.record.Record.{Record}
-use Rattle.sheet.specs.View.{blankRecord, recordIn}
+use Rattle.sheet.specs.declared.nesting.AcceptedRecord.{AcceptedRecord}
+use Rattle.sheet.specs.declared.nesting.RecordAnswer.{RecordAnswer}
+use Rattle.sheet.specs.declared.nesting.RecordAnswer.the-variants as answer
+use Rattle.records.specs.declared.Record.{Record}
+use Rattle.sheet.specs.Sheets.{recordsIn}
+use Rattle.records.specs.View.{blankRecord, recordIn}
 use Rattle.sheet.specs.Nestings.{nestingOf, fieldsPass, nestingAfter, mayStandIn}
 
 -- the record reader's answer: a head, the end, or a refusal with its number and its place
@@ -24,19 +26,19 @@ headResult (head.Found h) = ok (some (record { kindNumber = h .kind; bodyOffset 
 headResult head.End = ok none
 headResult (head.Refused r) = refused (r .number) (r .offset)
 
--- one record's answer: passed, or a refusal
-abbrev pub stepResult : Step → Result Passed
-stepResult (step.Accepted p) = ok p
-stepResult (step.Refused r) = refused (r .number) (r .offset)
+-- one record's answer: accepted, or a refusal
+abbrev pub acceptedResult : RecordAnswer → Result AcceptedRecord
+acceptedResult (answer.Accepted a) = ok a
+acceptedResult (answer.Refused r) = refused (r .number) (r .offset)
 
--- what a step keeps of an accepted record: its length, and what is open after it
-unfoldable pub stepOf : Result Accepted → Result Passed
-stepOf (ok a) = ok (record { length = recordLength (a .accepted); after = nestingOf (a .after) })
-stepOf (refused number place) = refused number place
+-- what the code keeps of an accepted record: its length, and what is open after it
+unfoldable pub acceptedOf : Result Accepted → Result AcceptedRecord
+acceptedOf (ok a) = ok (record { length = recordLength (a .accepted); after = nestingOf (a .after) })
+acceptedOf (refused number place) = refused number place
 
 -- refusals 3 and 5, in this order, of a record that would stand at `at`, for any three numbers of what is open: to the fields only the number of
 -- loops around the record matters
-unfoldable pub acceptIn : ℕ → Nesting → ℕ → List ℕ → Result Passed
+unfoldable pub acceptIn : ℕ → Nesting → ℕ → List ℕ → Result AcceptedRecord
 acceptIn at here kind body =
     require (fieldsPass (replicate (here .depth) openLoop) kind body) 3 at
     (require (mayStandIn here kind) 5 at (ok (record { length = 1 + length body; after = nestingAfter here kind })))
@@ -56,7 +58,6 @@ unfoldable pub orZero : Result ℕ → ℕ
 orZero (ok n) = n
 orZero (refused number place) = 0
 
--- the records, and blank ones up to 64
-unfoldable pub listed : Result (List M.Record) → List Record
-listed (ok rs) = map recordIn rs ++ replicate (64 - length rs) (blankRecord 0)
-listed (refused number place) = replicate 64 (blankRecord 0)
+-- the records, and blank ones up to the limit
+unfoldable pub withBlanks : Result (List M.Record) → List Record
+withBlanks r = map recordIn (recordsIn r) ++ replicate (recordLimit - length (recordsIn r)) (blankRecord 0)

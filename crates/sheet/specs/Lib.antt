@@ -1,3 +1,3 @@
-pub mod View
+pub mod Sheets
 pub mod Nestings
 pub mod Answers

@@ -2,11 +2,12 @@
 use mathlib.Core.List.{List, [], _∷_}
 use mathlib.Core.Bool.{Bool, true, false, not, cond, _&&_, _||_}
 use mathlib.Core.Option.{Option, none, some}
-use Prim.Native.Nat.{ℕ, zero, _+_, _*_, _-_, _/_, _%_}
+use Prim.Native.Nat.{ℕ, zero, _+_, _*_, _-_, _/_, _%_, _^_}
 use lib.ListN.{length}
 use lib.Dec.{leb, ltb, eqb}
 use Rattle.meaning.specs.Limits.{depthLimit, openLimit}
-use Rattle.meaning.specs.Record.{Kind, workKind, loopKind, endKind, choiceKind, nextArmKind, kindOf, decodeRecord, Open, openLoop, openChoice, loopDepth, fieldsInRange, openAfter}
+use Rattle.meaning.specs.Record.{Kind, workKind, loopKind, endKind, choiceKind, nextArmKind, kindOf, decodeRecord}
+use Rattle.meaning.specs.Record.{Open, openLoop, openChoice, loopDepth, fieldsInRange, openAfter}
 use Rattle.sheet.specs.declared.nesting.Nesting.{Nesting}
 
 -- 1 for a loop, 0 for a choice
@@ -52,11 +53,11 @@ mayStand os kind = isThere (openAfterKind os kind)
 
 -- ---- the same for any three numbers, also those of no list of open records
 
--- one more open record, whose digit is 1 for a loop and 0 for a choice; where eight are open or loops, the same
-unfoldable pub openedNesting : Nesting → ℕ → Nesting
-openedNesting here digit =
+-- one more open record, whose digit is 1 for a loop and 0 for a choice; where as many are open or loops as may be, the same
+unfoldable pub extendedNesting : Nesting → ℕ → Nesting
+extendedNesting here digit =
     cond (leb openLimit (here .size) || leb openLimit (here .depth)) here
-    (record { size = here .size + 1; depth = here .depth + digit; loops = here .loops % 128 * 2 + digit })
+    (record { size = here .size + 1; depth = here .depth + digit; loops = here .loops % 2 ^ (openLimit - 1) * 2 + digit })
 
 -- the innermost closed; where nothing is open, or a loop would close and none is open, the same
 unfoldable pub closedNesting : Nesting → Nesting
@@ -67,9 +68,9 @@ closedNesting here =
 -- what is open after a record by its kind; a work, a next arm and what has no kind change nothing
 unfoldable pub nestingAfterAs : Nesting → Option Kind → Nesting
 nestingAfterAs here (some workKind) = here
-nestingAfterAs here (some loopKind) = openedNesting here 1
+nestingAfterAs here (some loopKind) = extendedNesting here 1
 nestingAfterAs here (some endKind) = closedNesting here
-nestingAfterAs here (some choiceKind) = openedNesting here 0
+nestingAfterAs here (some choiceKind) = extendedNesting here 0
 nestingAfterAs here (some nextArmKind) = here
 nestingAfterAs here none = here
 

@@ -2,10 +2,10 @@
 ghost use mathlib.Core.Path.{_≡_};
 ghost use Rattle.meaning.specs.Reader.{headAt, bodyAt};
 ghost use Rattle.sheet.specs.Answers.{headResult};
-use crate::record::NEXT_ARM;
-use crate::record::WORK;
-use crate::record::body_length;
 use crate::refusal::Refusal;
+use records::NEXT_ARM;
+use records::WORK;
+use records::body_length;
 
 // A record's kind, and where its body begins and how long it is.
 pub struct Head {

@@ -6,17 +6,18 @@ ghost use lib.ListN.{length, getD, drop};
 ghost use Rattle.meaning.specs.Record.{Open};
 ghost use Rattle.meaning.specs.Reader.{ok, readRecord, read};
 ghost use Rattle.meaning.specs.Writer.{store, write};
-ghost use Rattle.sheet.specs.View.{rawRecordOf};
+ghost use Rattle.records.specs.View.{rawRecordOf};
 ghost use Rattle.sheet.specs.Nestings.{nestingOf};
-ghost use Rattle.sheet.specs.Answers.{stepResult, stepOf, countResult, counted, orZero, listed};
+ghost use Rattle.sheet.specs.Answers.{acceptedResult, acceptedOf, countResult, counted, orZero, withBlanks};
 use crate::head::HeadAnswer;
 use crate::head::head_at;
 use crate::nesting::Nesting;
-use crate::nesting::Step;
+use crate::nesting::RecordAnswer;
 use crate::nesting::accept_record;
-use crate::record::MAX_RECORDS;
-use crate::record::Record;
 use crate::refusal::Refusal;
+use records::MAX_RECORDS;
+use records::Record;
+use records::Records;
 
 pub enum ReadAnswer {
     Count(usize),
@@ -24,15 +25,16 @@ pub enum ReadAnswer {
 }
 
 // The records of a sheet, blank ones after them, and how many there are or the refusal.
-pub struct Listing {
-    pub records: [Record; 64],
+pub struct RecordsRead {
+    pub records: Records,
     pub answer: ReadAnswer,
 }
 
 // Refusals 2, 1, 3 and 5, in this order, of the record at an offset where `here` is open.
-fn read_record(sheet: &[u8], at: usize, here: Nesting) -> Step
+fn read_record(sheet: &[u8], at: usize, here: Nesting) -> RecordAnswer
     requires { ⌜ at < length (now sheet) ⌝ }
-    ensures { λ r. ⌜ ((os : List Open) → here ≡ nestingOf os → stepResult r ≡ stepOf (readRecord at os (getD (now (sheet .entry)) at 0) (drop (at + 1) (now (sheet .entry))))) ⌝ }
+    ensures { λ r. ⌜ ((os : List Open) → here ≡ nestingOf os →
+        acceptedResult r ≡ acceptedOf (readRecord at os (getD (now (sheet .entry)) at 0) (drop (at + 1) (now (sheet .entry))))) ⌝ }
 {
     let answer = head_at(sheet, at);
     match answer {
@@ -41,9 +43,9 @@ fn read_record(sheet: &[u8], at: usize, here: Nesting) -> Step
             let to = from + head.length;
             accept_record(at, here, head.kind, &sheet[from..to])
         }
-        HeadAnswer::Refused(r) => Step::Refused(r),
+        HeadAnswer::Refused(r) => RecordAnswer::Refused(r),
         // cannot be: a byte stands at `at`
-        HeadAnswer::End => Step::Refused(Refusal {
+        HeadAnswer::End => RecordAnswer::Refused(Refusal {
             number: 1,
             offset: at,
         }),
@@ -64,15 +66,15 @@ pub fn check_sheet(sheet: &[u8]) -> ReadAnswer
                 offset: at,
             });
         }
-        let step = read_record(sheet, at, here);
-        match step {
-            Step::Accepted(passed) => {
-                let after = passed.after;
+        let answer = read_record(sheet, at, here);
+        match answer {
+            RecordAnswer::Accepted(record) => {
+                let after = record.after;
                 here = after;
-                at += passed.length;
+                at += record.length;
                 count += 1;
             }
-            Step::Refused(r) => {
+            RecordAnswer::Refused(r) => {
                 return ReadAnswer::Refused(r);
             }
         }
@@ -97,38 +99,39 @@ fn count_in(answer: ReadAnswer) -> usize
 }
 
 // The records of a sheet that has `count` of them, blank ones after them.
-fn decode_all(sheet: &[u8], count: usize) -> [Record; 64]
+fn decode_all(sheet: &[u8], count: usize) -> Records
     requires { ⌜ count ≡ orZero (counted (read (now sheet))) ⌝ }
-    ensures { λ r. ⌜ r ≡ listed (read (now (sheet .entry))) ⌝ }
+    ensures { λ r. ⌜ r ≡ withBlanks (read (now (sheet .entry))) ⌝ }
 {
     let blank = Record::blank(0);
-    let mut records: [Record; 64] = [blank; 64];
+    let mut records: Records = [blank; MAX_RECORDS];
     let mut at: usize = 0;
-    let mut k: usize = 0;
-    while k < count {
+    let mut number: usize = 0;
+    while number < count {
         let answer = head_at(sheet, at);
         let HeadAnswer::Found(head) = answer else {
             return records;
         };
         let from = head.offset;
         let to = from + head.length;
-        records[k] = Record::decode(head.kind, &sheet[from..to]);
+        records[number] = Record::decode(head.kind, &sheet[from..to]);
         at = to;
-        k += 1;
+        number += 1;
     }
     records
 }
 
 // Reads a sheet's records. Writing them again gives back the sheet.
-pub fn read_sheet(sheet: &[u8]) -> Listing
+pub fn read_sheet(sheet: &[u8]) -> RecordsRead
     ensures answer { λ r. ⌜ countResult (r .answer) ≡ counted (read (now (sheet .entry))) ⌝ }
-    ensures records { λ r. ⌜ r .records ≡ listed (read (now (sheet .entry))) ⌝ }
-    ensures undone { λ r. ⌜ ((n : ℕ) (buffer : List ℕ) → countResult (r .answer) ≡ ok n → length (now (sheet .entry)) ≤ length buffer → write (map rawRecordOf (r .records)) n buffer ≡ store buffer (ok (now (sheet .entry)))) ⌝ }
+    ensures records { λ r. ⌜ r .records ≡ withBlanks (read (now (sheet .entry))) ⌝ }
+    ensures undone { λ r. ⌜ ((n : ℕ) (buffer : List ℕ) → countResult (r .answer) ≡ ok n → length (now (sheet .entry)) ≤ length buffer →
+        write (map rawRecordOf (r .records)) n buffer ≡ store buffer (ok (now (sheet .entry)))) ⌝ }
 {
     let answer = check_sheet(sheet);
     let count = count_in(answer);
     let records = decode_all(sheet, count);
-    Listing {
+    RecordsRead {
         records: records,
         answer: answer,
     }

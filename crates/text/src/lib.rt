@@ -1,42 +1,59 @@
 // The text that the program `bound` prints.
 mod lines;
-mod loops;
-mod put;
+mod loop_lines;
 
 ghost use mathlib.Core.Path.{_≡_};
 ghost use mathlib.Core.List.{_++_};
-ghost use Prim.Native.Nat.{_+_, _*_, _≤_};
-ghost use lib.ListN.{length, take, drop};
-ghost use Rattle.meaning.specs.Limits.{recordLimit, inputLimit};
+ghost use Prim.Native.Nat.{_≤_};
+ghost use lib.ListN.{length, take, drop, replicate};
+ghost use Rattle.meaning.specs.Limits.{inputLimit};
 ghost use Rattle.meaning.specs.Reader.{read};
 ghost use Rattle.meaning.specs.Answer.{answer};
 ghost use Rattle.meaning.specs.Program.{answerText, inputBudget, programText, reportsOf};
-ghost use Rattle.text.specs.Append.{Appended};
-ghost use Rattle.text.specs.Limits.{figuresLineLimit, loopLineLimit};
+ghost use Rattle.encoding.specs.Append.{Appended};
+ghost use Rattle.text.specs.Limits.{textLimit};
+use crate::lines::FIGURES_LINE_LENGTH;
+use crate::lines::LOOP_LINE_LENGTH;
 use crate::lines::put_figures_line;
 use crate::lines::put_refusal_line;
-use crate::loops::put_loops;
+use crate::loop_lines::put_loops;
+use encoding::number::signed16_at;
+use encoding::number::unsigned32_at;
 use figures::Answer;
 use figures::cycles;
-use form::number::signed16_at;
-use form::number::unsigned16_at;
+use form::Parameters;
+use records::MAX_RECORDS;
+use records::MAX_SHEET_LENGTH;
 use sheet::refusal::Refusal;
 
 // Four parameters of 2 bytes each and a budget of 4 bytes stand before the sheet.
 const HEADER_LENGTH: usize = 12;
 
+// The header, the longest sheet, and a byte of one record more: so many bytes of an input matter.
+pub const INPUT_LENGTH: usize = HEADER_LENGTH + MAX_SHEET_LENGTH + 1;
+
+// The longest figures line, and for each record the longest line of a loop.
+pub const TEXT_LENGTH: usize = FIGURES_LINE_LENGTH + MAX_RECORDS * LOOP_LINE_LENGTH;
+
+pub type Text = [u8; TEXT_LENGTH];
+
+// Room for all of an input that matters.
+pub fn blank_input() -> [u8; INPUT_LENGTH]
+    ensures { λ r. ⌜ r ≡ replicate inputLimit 0 ⌝ }
+{
+    [0; INPUT_LENGTH]
+}
+
 // The budget, low byte first.
 fn budget_of(input: &[u8]) -> u32
     ensures { λ r. ⌜ r ≡ inputBudget (now (input .entry)) ⌝ }
 {
-    let low = unsigned16_at(input, 8);
-    let high = unsigned16_at(input, 10);
-    (low as u32) + 65536 * (high as u32)
+    unsigned32_at(input, 8)
 }
 
 // The figures and a line a loop, or the refusal, at the buffer's start.
-fn put_answer(sheet: &[u8], parameters: [i16; 4], budget: u32, buffer: &mut [u8]) -> usize
-    requires { ⌜ figuresLineLimit + loopLineLimit * recordLimit ≤ length (now buffer) ⌝ }
+fn put_answer(sheet: &[u8], parameters: Parameters, budget: u32, buffer: &mut [u8]) -> usize
+    requires { ⌜ textLimit ≤ length (now buffer) ⌝ }
     ensures { λ r. ⌜ Appended (now (buffer .entry)) 0
         (answerText (answer (now (sheet .entry)) parameters budget) (reportsOf parameters (read (now (sheet .entry))))) (now (buffer .exit)) r ⌝ }
 {
@@ -50,11 +67,11 @@ fn put_answer(sheet: &[u8], parameters: [i16; 4], budget: u32, buffer: &mut [u8]
     }
 }
 
-// Stores the text at the buffer's start and answers its length; the bytes after it stay. At most 1,613 bytes of the input matter.
-pub fn program_text(input: &[u8], buffer: &mut [u8; 4096]) -> usize
+// Stores the text at the buffer's start and answers its length; the bytes after it stay. Of the input its first bytes matter, as many as `blank_input` has.
+pub fn program_text(input: &[u8], buffer: &mut Text) -> usize
     ensures length { λ r. ⌜ r ≡ length (programText (now (input .entry))) ⌝ }
     ensures bytes { λ _. ⌜ now (buffer .exit) ≡ programText (now (input .entry)) ++ drop (length (programText (now (input .entry)))) (now (buffer .entry)) ⌝ }
-    ensures fits { λ r. ⌜ (r ≤ 4096) × (length (now (buffer .exit)) ≡ 4096) ⌝ }
+    ensures fits { λ r. ⌜ (r ≤ textLimit) × (length (now (buffer .exit)) ≡ textLimit) ⌝ }
     ensures cut { λ _. ⌜ programText (now (input .entry)) ≡ programText (take inputLimit (now (input .entry))) ⌝ }
 {
     if input.len() < HEADER_LENGTH {

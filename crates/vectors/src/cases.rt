@@ -2,14 +2,16 @@
 use crate::calls::CALL;
 use crate::numbers::PARAMETERS;
 use crate::plans::LINE;
-use crate::stages::MOST_STAGES;
-use crate::stages::STATE;
-use form::number::byte_at;
-use form::number::signed8_at;
-use form::number::signed16_at;
-use form::number::unsigned16_at;
+use crate::states::MOST_STAGES;
+use crate::states::STATE;
+use encoding::number::byte_at;
+use encoding::number::signed8_at;
+use encoding::number::signed16_at;
+use encoding::number::unsigned16_at;
 use form::packed::PackedForm;
-use sheet::record::Record;
+use records::Record;
+use records::loops::Loop;
+use records::work::Work;
 
 pub(crate) const READER: u8 = 1;
 
@@ -20,6 +22,9 @@ pub(crate) const PLAN: u8 = 3;
 pub(crate) const CALLS: u8 = 4;
 
 pub(crate) const STAGES: u8 = 5;
+
+// How many bytes an entry takes that has the fields of a record.
+pub(crate) const ENTRY: usize = 29;
 
 // What is called, the refusal's number, lengths, and the place, count or length that is expected.
 pub(crate) struct Case {
@@ -59,7 +64,7 @@ pub(crate) fn entries_length(case: Case) -> usize {
     if case.which == CALLS {
         return CALL;
     }
-    29 * entries
+    ENTRY * entries
 }
 
 // The form from an offset of an entry.
@@ -80,18 +85,22 @@ fn form_in(entry: &[u8], at: u8) -> PackedForm {
     }
 }
 
-// The record in an entry of 29 bytes.
+// The record in an entry.
 pub(crate) fn record_in(entry: &[u8]) -> Record {
     let lower = form_in(entry, 11);
     let upper = form_in(entry, 20);
     Record {
         kind: byte_at(entry, 0),
-        least: unsigned16_at(entry, 1),
-        most: unsigned16_at(entry, 3),
-        start: unsigned16_at(entry, 5),
-        step: unsigned16_at(entry, 7),
-        stride: unsigned16_at(entry, 9),
-        lower: lower,
-        upper: upper,
+        work: Work {
+            least: unsigned16_at(entry, 1),
+            most: unsigned16_at(entry, 3),
+        },
+        looping: Loop {
+            start: unsigned16_at(entry, 5),
+            step: unsigned16_at(entry, 7),
+            stride: unsigned16_at(entry, 9),
+            lower: lower,
+            upper: upper,
+        },
     }
 }

@@ -2,6 +2,7 @@
 use crate::calls::calls_agree;
 use crate::cases::CALLS;
 use crate::cases::Case;
+use crate::cases::ENTRY;
 use crate::cases::PLAN;
 use crate::cases::READER;
 use crate::cases::STAGES;
@@ -9,11 +10,15 @@ use crate::cases::WRITER;
 use crate::cases::entries_length;
 use crate::cases::record_in;
 use crate::plans::plan_agrees;
-use crate::stages::stages_agree;
+use crate::states::stages_agree;
 use form::packed::PackedForm;
+use records::MAX_RECORDS;
+use records::Record;
+use records::Records;
+use records::loops::Loop;
+use records::work::Work;
 use sheet::reader::ReadAnswer;
 use sheet::reader::read_sheet;
-use sheet::record::Record;
 use writer::WriteAnswer;
 use writer::write_sheet;
 
@@ -34,54 +39,65 @@ fn same_form(a: PackedForm, b: PackedForm) -> bool {
     a.constant == b.constant && indexes && same_four(parameter, other_parameter)
 }
 
-fn same_record(a: Record, b: Record) -> bool {
-    let work = a.kind == b.kind && a.least == b.least && a.most == b.most;
+fn same_work(a: Work, b: Work) -> bool {
+    a.least == b.least && a.most == b.most
+}
+
+fn same_loop(a: Loop, b: Loop) -> bool {
     let costs = a.start == b.start && a.step == b.step && a.stride == b.stride;
     let lower = a.lower;
     let upper = a.upper;
     let other_lower = b.lower;
     let other_upper = b.upper;
-    work && costs && same_form(lower, other_lower) && same_form(upper, other_upper)
+    costs && same_form(lower, other_lower) && same_form(upper, other_upper)
 }
 
-// The record of entry k, blank past the entries.
-fn entry_at(entries: &[u8], k: usize) -> Record {
-    if 64 < k || entries.len() < 29 * k + 29 {
+fn same_record(a: Record, b: Record) -> bool {
+    let work = a.work;
+    let other_work = b.work;
+    let looping = a.looping;
+    let other_looping = b.looping;
+    a.kind == b.kind && same_work(work, other_work) && same_loop(looping, other_looping)
+}
+
+// The record of the entry with this number, blank past the entries.
+fn entry_at(entries: &[u8], number: usize) -> Record {
+    if MAX_RECORDS < number || entries.len() < ENTRY * number + ENTRY {
         return Record::blank(0);
     }
-    record_in(&entries[29 * k..29 * k + 29])
+    record_in(&entries[ENTRY * number..ENTRY * number + ENTRY])
 }
 
-// The 64 records that the entries make, blank ones after them.
-fn records_in(entries: &[u8]) -> [Record; 64] {
+// The records that the entries make, blank ones after them.
+fn records_in(entries: &[u8]) -> Records {
     let blank = Record::blank(0);
-    let mut records: [Record; 64] = [blank; 64];
-    let mut k: usize = 0;
-    while k < 64 {
-        records[k] = entry_at(entries, k);
-        k += 1;
+    let mut records: Records = [blank; MAX_RECORDS];
+    let mut number: usize = 0;
+    while number < MAX_RECORDS {
+        records[number] = entry_at(entries, number);
+        number += 1;
     }
     records
 }
 
-fn same_records(a: [Record; 64], b: [Record; 64]) -> bool {
-    let mut k: usize = 0;
-    while k < 64 {
-        if !same_record(a[k], b[k]) {
+fn same_records(a: Records, b: Records) -> bool {
+    let mut number: usize = 0;
+    while number < MAX_RECORDS {
+        if !same_record(a[number], b[number]) {
             return false;
         }
-        k += 1;
+        number += 1;
     }
     true
 }
 
 fn reader_agrees(case: Case, sheet: &[u8], entries: &[u8]) -> bool {
-    let listing = read_sheet(sheet);
-    let records = listing.records;
+    let read = read_sheet(sheet);
+    let records = read.records;
     if !same_records(records, records_in(entries)) {
         return false;
     }
-    let answer = listing.answer;
+    let answer = read.answer;
     match answer {
         ReadAnswer::Count(n) => case.number == 0 && n == case.value,
         ReadAnswer::Refused(r) => r.number == (case.number as u32) && r.offset == case.value,
@@ -115,7 +131,7 @@ pub(crate) fn still_filled(buffer: &[u8], from: usize) -> bool {
 }
 
 // Writes into the first bytes of a space.
-fn write_into(records: [Record; 64], count: usize, space: &mut [u8], length: usize) -> WriteAnswer {
+fn write_into(records: Records, count: usize, space: &mut [u8], length: usize) -> WriteAnswer {
     if space.len() < length {
         return WriteAnswer::Length(0);
     }

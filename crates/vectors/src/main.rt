@@ -4,7 +4,7 @@ mod cases;
 mod compare;
 mod numbers;
 mod plans;
-mod stages;
+mod states;
 
 use crate::cases::PLAN;
 use crate::cases::READER;

@@ -1,13 +1,7 @@
 // Numbers of what follows a case's sheet.
-use form::number::signed16_at;
-use form::number::unsigned16_at;
-
-// The number in four bytes.
-pub(crate) fn unsigned32_at(given: &[u8], at: u8) -> u32 {
-    let low = unsigned16_at(given, at as usize);
-    let high = unsigned16_at(given, at as usize + 2);
-    (low as u32) + 65536 * (high as u32)
-}
+use encoding::number::signed16_at;
+use encoding::number::unsigned16_at;
+use form::Parameters;
 
 // The number in eight bytes.
 pub(crate) fn unsigned64_at(given: &[u8], at: u8) -> u64 {
@@ -21,7 +15,7 @@ pub(crate) fn unsigned64_at(given: &[u8], at: u8) -> u64 {
 // How many bytes the four parameters take, which come first.
 pub(crate) const PARAMETERS: usize = 8;
 
-pub(crate) fn parameters_in(given: &[u8]) -> [i16; 4] {
+pub(crate) fn parameters_in(given: &[u8]) -> Parameters {
     let p1 = signed16_at(given, 0);
     let p2 = signed16_at(given, 2);
     let p3 = signed16_at(given, 4);

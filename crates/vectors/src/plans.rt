@@ -2,16 +2,34 @@
 use crate::cases::Case;
 use crate::numbers::PARAMETERS;
 use crate::numbers::parameters_in;
-use form::number::byte_at;
-use form::number::unsigned16_at;
-use nest::plan::PlanAnswer;
-use nest::plan::plan;
-use nest::report::LoopReport;
-use nest::report::Report;
-use nest::report::report_of;
+use encoding::number::byte_at;
+use encoding::number::unsigned16_at;
+use layout::MAX_LOOPS;
+use layout::differences::DIFFERENCE_WORDS;
+use layout::differences::Differences;
+use layout::facts::FACT_NUMBERS;
+use layout::facts::Facts;
+use layout::limits::Limits;
+use layout::rows::ROW_NUMBERS;
+use layout::rows::Rows;
+use planner::PlanAnswer;
+use planner::plan;
+use planner::report::Class;
+use planner::report::LoopReport;
+use planner::report::Report;
+use planner::report::report_of;
+use records::MAX_RECORDS;
 
 // How many bytes a loop's line takes.
 pub(crate) const LINE: usize = 5;
+
+// The number that a stored line has for a class.
+fn class_number(class: Class) -> u8 {
+    match class {
+        Class::Closed => 1,
+        Class::Walked => 0,
+    }
+}
 
 // The offset after a loop's line in the given numbers (its offset, closed or walked, ceiling); 0 where the line is another.
 fn after_line(report: LoopReport, given: &[u8], at: usize) -> usize {
@@ -19,9 +37,10 @@ fn after_line(report: LoopReport, given: &[u8], at: usize) -> usize {
         return 0;
     }
     let offset = report.offset == unsigned16_at(given, at) as u64;
-    let closed = report.closed == (byte_at(given, at + 2) == 1);
+    let class = report.class;
+    let class = class_number(class) == byte_at(given, at + 2);
     let ceiling = report.ceiling == unsigned16_at(given, at + 3) as u64;
-    if offset && closed && ceiling {
+    if offset && class && ceiling {
         at + LINE
     } else {
         0
@@ -37,28 +56,38 @@ fn after_report(report: Report, given: &[u8], at: usize) -> usize {
 }
 
 // Whether the plan's loops have just the lines that follow the parameters.
-fn same_lines(rows: &[u64; 512], slopes: &[u64; 512], given: &[u8]) -> bool {
+fn same_lines(rows: &Rows, facts: &Facts, limits: &Limits, given: &[u8]) -> bool {
     let mut at = PARAMETERS;
-    let mut k: usize = 0;
-    while k < 64 {
-        let report = report_of(rows, slopes, k);
+    let mut number: usize = 0;
+    while number < MAX_RECORDS {
+        let report = report_of(rows, facts, limits, number);
         at = after_report(report, given, at);
         if at == 0 {
             return false;
         }
-        k += 1;
+        number += 1;
     }
     at == given.len()
 }
 
 pub(crate) fn plan_agrees(case: Case, sheet: &[u8], given: &[u8]) -> bool {
-    let mut rows: [u64; 512] = [0; 512];
-    let mut slopes: [u64; 512] = [0; 512];
-    let answer = plan(sheet, parameters_in(given), &mut rows, &mut slopes);
+    let mut rows: Rows = [0; ROW_NUMBERS];
+    let mut differences: Differences = [0; DIFFERENCE_WORDS];
+    let mut facts: Facts = [0; FACT_NUMBERS];
+    let mut limits: Limits = [0; MAX_LOOPS];
+    let parameters = parameters_in(given);
+    let answer = plan(
+        sheet,
+        parameters,
+        &mut rows,
+        &mut differences,
+        &mut facts,
+        &mut limits,
+    );
     match answer {
         PlanAnswer::Count(n) => case.number == 0
             && n == case.value
-            && same_lines(&rows, &slopes, given),
+            && same_lines(&rows, &facts, &limits, given),
         PlanAnswer::Refused(r) => r.number == (case.number as u32) && r.offset == case.value,
     }
 }

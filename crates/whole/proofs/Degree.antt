@@ -51,7 +51,8 @@ module _ {X : Type 0} (add : X → X → X) where
   degree-sumTo n d g h = ℤ-induction (λ n. Degree add d (λ x. sumTo n (λ k. g k x)))
       (degree-extensional d (λ x. sym (sumTo-zero (λ k. g k x))) (degree-constant d (pos zero)))
       (λ n i. degree-extensional d (λ x. sym (sumTo-suc n (λ k. g k x))) (degree-add d (λ x. sumTo n (λ k. g k x)) (g n) i (h n)))
-      (λ n i. degree-extensional d (λ x. move-left (sumTo n (λ k. g k x)) (g (predℤ n) x) (sumTo (predℤ n) (λ k. g k x)) (sumTo-pred n (λ k. g k x) ∙ +ℤ-comm (sumTo (predℤ n) (λ k. g k x)) (g (predℤ n) x)))
+      (λ n i. degree-extensional d (λ x. move-left (sumTo n (λ k. g k x)) (g (predℤ n) x) (sumTo (predℤ n) (λ k. g k x))
+      (sumTo-pred n (λ k. g k x) ∙ +ℤ-comm (sumTo (predℤ n) (λ k. g k x)) (g (predℤ n) x)))
       (degree-sub d (λ x. sumTo n (λ k. g k x)) (g (predℤ n)) i (h (predℤ n))))
       n
 
@@ -62,7 +63,8 @@ pub degree-compose : {X Y : Type 0} (addX : X → X → X) (addY : Y → Y → Y
 unfolding Degree
 degree-compose addX addY affine linear moves zero f h = λ x v. ap f (moves x v) ∙ h (affine x) (linear v)
 degree-compose addX addY affine linear moves (suc d) f h = λ v.
-    degree-extensional addX d (λ x. ap (λ y. f y -ℤ f (affine x)) (sym (moves x v))) (degree-compose addX addY affine linear moves d (λ y. f (addY y (linear v)) -ℤ f y) (h (linear v)))
+    degree-extensional addX d (λ x. ap (λ y. f y -ℤ f (affine x)) (sym (moves x v)))
+    (degree-compose addX addY affine linear moves d (λ y. f (addY y (linear v)) -ℤ f y) (h (linear v)))
 
 -- The sum along a coordinate, from 0 up to an affine bound. `place x k` is the point x with the coordinate at k, perhaps counted from an
 -- affine start, and `placeLinear` is its linear part; `bound` is affine with the linear part `slope`.
@@ -75,7 +77,8 @@ module _ {X : Type 0} (add : X → X → X) (add-right-comm : (x w v : X) → ad
       ≡ sumTo (bound (add x v)) (λ k. g (place (add x v) k)) -ℤ sumTo (bound x) (λ k. g (place x k))
   sum-moved g v x =
       ap (λ (z : ℤ). z +ℤ sumTo (slope v) (λ j. g (place (add x v) (bound x +ℤ j))))
-      (ap (λ (f : ℤ → ℤ). sumTo (bound x) f) (fun-ext (λ k. ap (λ (y : X). g y -ℤ g (place x k)) (moved k))) ∙ sumTo-sub (bound x) (λ k. g (place (add x v) k)) (λ k. g (place x k)))
+      (ap (λ (f : ℤ → ℤ). sumTo (bound x) f) (fun-ext (λ k. ap (λ (y : X). g y -ℤ g (place x k)) (moved k)))
+      ∙ sumTo-sub (bound x) (λ k. g (place (add x v) k)) (λ k. g (place x k)))
       ∙ swap (sumTo (bound x) (λ k. g (place (add x v) k))) (sumTo (bound x) (λ k. g (place x k))) (sumTo (slope v) (λ j. g (place (add x v) (bound x +ℤ j))))
       ∙ ap (λ (z : ℤ). z -ℤ sumTo (bound x) (λ k. g (place x k)))
       (sym (ap (λ (m : ℤ). sumTo m (λ k. g (place (add x v) k))) (bound-add x v) ∙ sumTo-append (bound x) (slope v) (λ k. g (place (add x v) k))))
@@ -100,14 +103,17 @@ module _ {X : Type 0} (add : X → X → X) (add-right-comm : (x w v : X) → ad
   pub degree-sum : (d : ℕ) (g : X → ℤ) → Degree add d g → Degree add (suc d) (λ x. sumTo (bound x) (λ k. g (place x k)))
   unfolding Degree
   degree-sum zero g h = λ v. degree-extensional add zero (sum-moved g v)
-      (degree-add add zero (λ x. sumTo (bound x) (λ k. g (add (place x k) (placeLinear v (pos zero))) -ℤ g (place x k))) (λ x. sumTo (slope v) (λ j. g (place (add x v) (bound x +ℤ j))))
-      (degree-extensional add zero (λ x. sym (ap (λ (f : ℤ → ℤ). sumTo (bound x) f) (fun-ext (λ k. unchanged v (place x k))) ∙ sumTo-zeros (bound x))) (degree-constant add zero (pos zero)))
+      (degree-add add zero (λ x. sumTo (bound x) (λ k. g (add (place x k) (placeLinear v (pos zero))) -ℤ g (place x k)))
+      (λ x. sumTo (slope v) (λ j. g (place (add x v) (bound x +ℤ j))))
+      (degree-extensional add zero (λ x. sym (ap (λ (f : ℤ → ℤ). sumTo (bound x) f) (fun-ext (λ k. unchanged v (place x k))) ∙ sumTo-zeros (bound x)))
+      (degree-constant add zero (pos zero)))
       (end-degree g v zero h))
     where
       unchanged : (v y : X) → g (add y (placeLinear v (pos zero))) -ℤ g y ≡ pos zero
       unchanged v y = ap (λ (z : ℤ). z -ℤ g y) (h y (placeLinear v (pos zero))) ∙ +ℤ-invr (g y)
   degree-sum (suc d) g h = λ v. degree-extensional add (suc d) (sum-moved g v)
-      (degree-add add (suc d) (λ x. sumTo (bound x) (λ k. g (add (place x k) (placeLinear v (pos zero))) -ℤ g (place x k))) (λ x. sumTo (slope v) (λ j. g (place (add x v) (bound x +ℤ j))))
+      (degree-add add (suc d) (λ x. sumTo (bound x) (λ k. g (add (place x k) (placeLinear v (pos zero))) -ℤ g (place x k)))
+      (λ x. sumTo (slope v) (λ j. g (place (add x v) (bound x +ℤ j))))
       (degree-sum d (λ y. g (add y (placeLinear v (pos zero))) -ℤ g y) (h (placeLinear v (pos zero))))
       (end-degree g v (suc d) h))
 

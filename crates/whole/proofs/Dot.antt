@@ -1,8 +1,9 @@
--- Sums of products of two lists: one element more, zeros, differences and sums of lists, the first element.
+-- Sums of products of two lists: zeros, differences and sums of lists, the first element, the first three.
 use mathlib.Core.Path.{_≡_, refl, sym, _∙_, ap, ap₂}
-use mathlib.Core.List.{List, [], _∷_, _++_}
-use Prim.Native.Nat.{ℕ, zero, suc}
-use lib.IntN.{ℤ, pos, negℤ, _+ℤ_, _-ℤ_, _*ℤ_, +ℤ-assoc, +ℤ-comm, +ℤ-idl, +ℤ-idr, negℤ-+ℤ, *ℤ-zero, zero-*ℤ}
+use mathlib.Core.List.{List, [], _∷_}
+use Prim.Native.Nat.{ℕ, zero, suc, _≤_}
+use native.Mathlib.Omega.{arith}
+use lib.IntN.{ℤ, pos, negℤ, _+ℤ_, _-ℤ_, _*ℤ_, +ℤ-idl, +ℤ-idr, negℤ-+ℤ, *ℤ-zero, zero-*ℤ}
 use lib.ListN.{length, getD, replicate}
 use Rattle.whole.specs.Integer.{dot, subtractLists}
 use Rattle.whole.specs.Degree.{_⊞_, firstOf, restOf}
@@ -11,13 +12,6 @@ use Rattle.whole.proofs.Ring.{*ℤ-+ℤ, negℤ-*ℤ, -ℤ-*ℤ, medial
 pub dot-nil : (xs : List ℤ) → dot xs [] ≡ pos zero
 dot-nil [] = refl
 dot-nil (x ∷ xs) = refl
-
--- one element more
-pub dot-append-one : (xs ys : List ℤ) (z : ℤ) → dot xs (ys ++ (z ∷ [])) ≡ dot xs ys +ℤ getD xs (length ys) (pos zero) *ℤ z
-dot-append-one [] [] z = sym (+ℤ-idl (pos zero *ℤ z) ∙ zero-*ℤ z)
-dot-append-one [] (y ∷ ys) z = sym (+ℤ-idl (pos zero *ℤ z) ∙ zero-*ℤ z)
-dot-append-one (x ∷ xs) [] z = +ℤ-comm (x *ℤ z) (dot xs []) ∙ ap (λ (t : ℤ). t +ℤ x *ℤ z) (dot-nil xs)
-dot-append-one (x ∷ xs) (y ∷ ys) z = ap (λ (t : ℤ). x *ℤ y +ℤ t) (dot-append-one xs ys z) ∙ sym (+ℤ-assoc (x *ℤ y) (dot xs ys) (getD xs (length ys) (pos zero) *ℤ z))
 
 pub dot-zeros : (xs : List ℤ) (n : ℕ) → dot xs (replicate n (pos zero)) ≡ pos zero
 dot-zeros [] n = refl
@@ -46,3 +40,18 @@ pub dot-head : (x : ℤ) (xs ys : List ℤ) → dot (x ∷ xs) ys ≡ x *ℤ fir
 unfolding firstOf restOf
 dot-head x xs [] = sym (ap₂ _+ℤ_ (*ℤ-zero x) (dot-nil xs))
 dot-head x xs (y ∷ ys) = refl
+
+-- the products of at most three elements, one by one
+pub dot-first-three : (xs ys : List ℤ) → length xs ≤ 3 →
+    dot xs ys ≡ getD xs 0 (pos zero) *ℤ getD ys 0 (pos zero) +ℤ (getD xs 1 (pos zero) *ℤ getD ys 1 (pos zero) +ℤ getD xs 2 (pos zero) *ℤ getD ys 2 (pos zero))
+dot-first-three [] ys h = sym (simp zero-*ℤ)
+dot-first-three (a ∷ []) [] h = sym (simp (*ℤ-zero, +ℤ-idl))
+dot-first-three (a ∷ []) (x ∷ ys) h = sym (simp (zero-*ℤ, +ℤ-idl))
+dot-first-three (a ∷ b ∷ []) [] h = sym (simp (*ℤ-zero, +ℤ-idl))
+dot-first-three (a ∷ b ∷ []) (x ∷ []) h = sym (simp (*ℤ-zero, +ℤ-idl))
+dot-first-three (a ∷ b ∷ []) (x ∷ y ∷ ys) h = sym (simp zero-*ℤ)
+dot-first-three (a ∷ b ∷ c ∷ []) [] h = sym (simp (*ℤ-zero, +ℤ-idl))
+dot-first-three (a ∷ b ∷ c ∷ []) (x ∷ []) h = sym (simp (*ℤ-zero, +ℤ-idl))
+dot-first-three (a ∷ b ∷ c ∷ []) (x ∷ y ∷ []) h = sym (simp *ℤ-zero)
+dot-first-three (a ∷ b ∷ c ∷ []) (x ∷ y ∷ z ∷ ys) h = ap (λ (t : ℤ). a *ℤ x +ℤ (b *ℤ y +ℤ t)) (+ℤ-idr (c *ℤ z))
+dot-first-three (a ∷ b ∷ c ∷ d ∷ xs) ys h = absurd (omega arith)

@@ -1,13 +1,14 @@
--- floorDivide rounds down: it is the largest q with q · s at most d. How many multiples of s from 0 on are at most d; and divisibility.
+-- floorDivide rounds down: it leaves from 0 to s - 1, and no other quotient does. How many multiples of s from 0 on are at most d; and divisibility.
 use mathlib.Core.Path.{_≡_, refl, sym, ap, _∙_}
 use Prim.Native.Nat.{ℕ, zero, suc, _+_, _*_, _-_, _/_, _%_, _≤_, _<_}
-use native.Mathlib.Nat.{le-of-eq, mul-comm, mul-div-le, mul-le-mul-left, div-eq-of-lt, div-eq-of-lt-le, div-zero, div-add-mod', mod-lt, le-div-iff-mul-le, mul-mod-left}
+use native.Mathlib.Nat.{le-of-eq, mul-comm, mul-div-le, mul-le-mul-left, div-eq-of-lt, div-eq-of-lt-le}
+use native.Mathlib.Nat.{div-zero, div-add-mod', mod-lt, le-div-iff-mul-le, mul-mod-left}
 use native.Mathlib.Omega.{arith}
-use lib.IntN.{ℤ, pos, negsuc, negℤ, natAbs, sucℤ, _+ℤ_, _-ℤ_, _*ℤ_, sucℤ-+ℤ, +ℤ-assoc, +ℤ-comm, sucℤ-*ℤ}
-use lib.Signed.{leZ, shrZ}
+use lib.IntN.{ℤ, pos, negsuc, negℤ, natAbs, sucℤ, _+ℤ_, _-ℤ_, _*ℤ_, +ℤ-assoc}
+use lib.Signed.{leZ}
 use lib.Dec.{T, leb→le, le→leb, eqb→eq, eqb-refl}
 use Rattle.whole.specs.Integer.{atLeastZero, floorDivide, floorRemainder, divides}
-use Rattle.whole.proofs.Ring.{collect, parts, ⊖-eq, left-comm, cancel-right, +ℤ-*ℤ, negℤ-*ℤ}
+use Rattle.whole.proofs.Ring.{collect, parts, ⊖-eq, cancel-right, +ℤ-*ℤ, negℤ-*ℤ}
 use Rattle.whole.proofs.Order.{AtMost, leZ→AtMost, AtMost→leZ, pos-AtMost, AtMost-pos, AtMost-suc, atLeastZero-monotone, subℕ-negsuc, natAbs-mul}
 
 -- ---- it is the floor
@@ -28,22 +29,6 @@ floor-division (negsuc a) s h =
   where
     negated : (n r : ℤ) → negℤ n ≡ r -ℤ (n +ℤ r)
     negated n r = rw (parts n, parts r) (simp collect (⊖-eq _ _ _ _ (omega arith)))
-
-pub floor-at-most : (d : ℤ) (s : ℕ) → 1 ≤ s → AtMost (floorDivide d s *ℤ pos s) d
-floor-at-most d s h = record { gap = floorRemainder d s; equation = floor-division d s h ∙ +ℤ-comm (pos (floorRemainder d s)) (floorDivide d s *ℤ pos s) }
-
-pub below-next-multiple : (d : ℤ) (s : ℕ) → 1 ≤ s → AtMost (sucℤ d) (sucℤ (floorDivide d s) *ℤ pos s)
-below-next-multiple d s h =
-    let r : ℕ = floorRemainder d s in
-    let m : ℤ = floorDivide d s *ℤ pos s in
-    let e : suc r + (s - suc r) ≡ s = omega (arith, floorRemainder-below d s h) in
-    record {
-      gap = s - suc r;
-      equation =
-          sucℤ-*ℤ (floorDivide d s) (pos s) ∙ ap (λ (n : ℕ). m +ℤ pos n) (sym e)
-          ∙ left-comm m (pos (suc r)) (pos (s - suc r)) ∙ sym (+ℤ-assoc (pos (suc r)) m (pos (s - suc r)))
-          ∙ ap (λ (z : ℤ). z +ℤ pos (s - suc r)) (sucℤ-+ℤ (pos r) m ∙ ap sucℤ (sym (floor-division d s h)));
-    }
 
 -- any division with such a remainder is this one
 pub floor-unique : (q : ℤ) (r s : ℕ) → r < s → floorDivide (pos r +ℤ q *ℤ pos s) s ≡ q
@@ -71,22 +56,18 @@ floor-shift s i d h =
     ∙ ap (λ (z : ℤ). floorDivide z s) (+ℤ-assoc (pos r) (q *ℤ pos s) (h *ℤ pos s) ∙ ap (λ (z : ℤ). pos r +ℤ z) (sym (+ℤ-*ℤ q h (pos s))))
     ∙ floor-unique (q +ℤ h) r s (floorRemainder-below d s i)
 
--- it is the shift that copies the sign bit, where s is a power of two
-pub floor-shrZ : (d : ℤ) (s : ℕ) → floorDivide d s ≡ shrZ d s
-unfolding floorDivide
-floor-shrZ (pos a) s = refl
-floor-shrZ (negsuc a) s = refl
-
 div-monotone : (a b s : ℕ) → a ≤ b → a / s ≤ b / s
 div-monotone a b zero h = le-of-eq (div-zero a ∙ sym (div-zero b))
-div-monotone a b (suc s) h = le-div-iff-mul-le {k = suc s} {x = a / suc s} {y = b} (omega arith) .1 (omega (arith, mul-div-le a (suc s), mul-comm (suc s) (a / suc s)))
+div-monotone a b (suc s) h =
+    le-div-iff-mul-le {k = suc s} {x = a / suc s} {y = b} (omega arith) .1 (omega (arith, mul-div-le a (suc s), mul-comm (suc s) (a / suc s)))
 
 pub floor-monotone : (a b : ℤ) (s : ℕ) → AtMost a b → AtMost (floorDivide a s) (floorDivide b s)
 unfolding floorDivide
 floor-monotone (pos a) (pos b) s h = pos-AtMost (div-monotone a b s (AtMost-pos h))
 floor-monotone (pos a) (negsuc b) s h = absurd (AtMost→leZ (pos a) (negsuc b) h)
 floor-monotone (negsuc a) (pos b) s h = leZ→AtMost (negsuc (a / s)) (pos (b / s)) tt
-floor-monotone (negsuc a) (negsuc b) s h = leZ→AtMost (negsuc (a / s)) (negsuc (b / s)) (le→leb (b / s) (a / s) (div-monotone b a s (leb→le b a (AtMost→leZ (negsuc a) (negsuc b) h))))
+floor-monotone (negsuc a) (negsuc b) s h =
+    leZ→AtMost (negsuc (a / s)) (negsuc (b / s)) (le→leb (b / s) (a / s) (div-monotone b a s (leb→le b a (AtMost→leZ (negsuc a) (negsuc b) h))))
 
 -- ---- how many multiples of s from 0 on are at most d: max(0, floor(d ÷ s) + 1)
 
@@ -103,7 +84,8 @@ count-negsuc a s = general (a / s)
     general (suc n) = refl
 
 pub count-monotone : (a b : ℤ) (s : ℕ) → AtMost a b → atLeastZero (sucℤ (floorDivide a s)) ≤ atLeastZero (sucℤ (floorDivide b s))
-count-monotone a b s h = atLeastZero-monotone (sucℤ (floorDivide a s)) (sucℤ (floorDivide b s)) (AtMost-suc (floorDivide a s) (floorDivide b s) (floor-monotone a b s h))
+count-monotone a b s h =
+    atLeastZero-monotone (sucℤ (floorDivide a s)) (sucℤ (floorDivide b s)) (AtMost-suc (floorDivide a s) (floorDivide b s) (floor-monotone a b s h))
 
 -- multiple k is at most d exactly where k is below the count
 pub counted-at-most : (d : ℤ) (s k : ℕ) → k < atLeastZero (sucℤ (floorDivide d s)) → AtMost (pos (k * s)) d

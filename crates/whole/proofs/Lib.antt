@@ -2,6 +2,7 @@ pub mod Ring
 pub mod Order
 pub mod Floor
 pub mod Dot
+pub mod Elements
 pub mod Counters
 pub mod Sum
 pub mod Degree

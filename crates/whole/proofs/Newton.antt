@@ -5,14 +5,13 @@ use mathlib.Core.List.{List, [], _∷_, _++_}
 use Prim.Native.Nat.{ℕ, zero, suc, _≤_, _<_}
 use native.Mathlib.Omega.{arith}
 use native.Mathlib.Numerals.{add-one}
-use lib.IntN.{ℤ, pos, _+ℤ_, _-ℤ_, _*ℤ_, +ℤ-comm, +ℤ-idr, *ℤ-zero, +ℤ-invr}
+use lib.IntN.{ℤ, pos, _+ℤ_, _-ℤ_, _*ℤ_, +ℤ-comm, +ℤ-idr, *ℤ-zero, +ℤ-invr, -ℤ-+ℤ-cancel}
 use lib.ListN.{length, take}
 use Rattle.whole.specs.Sum.{total}
 use Rattle.whole.specs.Degree.{Degree, _⊞_}
 use Rattle.whole.specs.Newton.{choose, differences, newtonTerms, newtonSum, values, weightedDifferences, weight, difference, DifferencesVanish}
-use Rattle.whole.proofs.Ring.{*ℤ-+ℤ, medial, left-comm, back, times-one}
+use Rattle.whole.proofs.Ring.{*ℤ-+ℤ, medial, left-comm, times-one}
 use Rattle.whole.proofs.Sum.{total-extensional}
-use Rattle.whole.proofs.Degree.{degree-add, degree-constant}
 use Rattle.whole.proofs.Choose.{choose-one}
 
 -- ---- the series of a sequence
@@ -28,7 +27,8 @@ unfolding series choose
 series-suc zero k n f = refl
 series-suc (suc count) k n f =
     ap₂ _+ℤ_ (*ℤ-+ℤ (f zero) (pos (choose n k)) (pos (choose n (suc k)))) (series-suc count (suc k) n (difference f))
-    ∙ medial (f zero *ℤ pos (choose n k)) (f zero *ℤ pos (choose n (suc k))) (series count (suc k) n (difference f)) (series count (suc (suc k)) n (difference f))
+    ∙ medial (f zero *ℤ pos (choose n k)) (f zero *ℤ pos (choose n (suc k))) (series count (suc k) n (difference f))
+    (series count (suc (suc k)) n (difference f))
 
 series-zero : (count k : ℕ) (f : ℕ → ℤ) → series count (suc k) zero f ≡ pos zero
 unfolding series choose
@@ -51,11 +51,11 @@ series-value zero (suc count) f premise = ap₂ _+ℤ_ (times-one (f zero)) (ser
 series-value (suc n) (suc count) f (inl h) =
     series-first count n f
     ∙ ap₂ _+ℤ_ (series-value n count (difference f) (inl (omega arith))) (series-value n (suc count) f (inl (omega arith)))
-    ∙ back (f (suc n)) (f n)
+    ∙ -ℤ-+ℤ-cancel (f (suc n)) (f n)
 series-value (suc n) (suc count) f (inr h) =
     series-first count n f
     ∙ ap₂ _+ℤ_ (series-value n count (difference f) (inr h)) (series-value n (suc count) f (inr h))
-    ∙ back (f (suc n)) (f n)
+    ∙ -ℤ-+ℤ-cancel (f (suc n)) (f n)
 
 -- equation 4: the sum
 pub series-sum : (n count : ℕ) (f : ℕ → ℤ) → (n ≤ count) ⊎ DifferencesVanish count f → series count (suc zero) n f ≡ total n f
@@ -100,7 +100,8 @@ values-series (suc count) n order f = ap (λ (z : ℤ). f zero *ℤ pos (choose 
 
 newton-values : (n count : ℕ) (f : ℕ → ℤ) → (n ≤ count) ⊎ DifferencesVanish count f → newtonSum n (values count f) ≡ total n f
 unfolding newtonSum
-newton-values n count f premise = ap (λ (m : ℕ). newtonTerms m n 0 (values count f)) (values-length count f) ∙ values-series count n 0 f ∙ series-sum n count f premise
+newton-values n count f premise =
+    ap (λ (m : ℕ). newtonTerms m n 0 (values count f)) (values-length count f) ∙ values-series count n 0 f ∙ series-sum n count f premise
 
 -- The sum of n values of f from the first `visited`: all are visited, or f is on 0 .. n - 1 a g of degree below `visited`.
 pub newton-sum : (n visited : ℕ) (f g : ℕ → ℤ) → visited ≤ n → ((k : ℕ) → k < n → f k ≡ g k)
@@ -115,13 +116,10 @@ newton-sum n visited f g fits same (inr vanish) =
 -- of degree h in one counter: the differences of order h + 1 vanish
 pub degree-vanish : (h : ℕ) (F : List ℤ → ℤ) → Degree _⊞_ h F → DifferencesVanish (suc h) (λ k. F (pos k ∷ []))
 unfolding Degree DifferencesVanish _⊞_
-degree-vanish zero F d = λ k. ap (λ (z : ℤ). z -ℤ F (pos k ∷ [])) (ap (λ (m : ℕ). F (pos m ∷ [])) (sym (add-one k)) ∙ d (pos k ∷ []) (pos 1 ∷ [])) ∙ +ℤ-invr (F (pos k ∷ []))
+degree-vanish zero F d =
+    λ k. ap (λ (z : ℤ). z -ℤ F (pos k ∷ [])) (ap (λ (m : ℕ). F (pos m ∷ [])) (sym (add-one k)) ∙ d (pos k ∷ []) (pos 1 ∷ [])) ∙ +ℤ-invr (F (pos k ∷ []))
 degree-vanish (suc h) F d = subst (DifferencesVanish (suc h)) (fun-ext (λ k. ap (λ (m : ℕ). F (pos m ∷ []) -ℤ F (pos k ∷ [])) (add-one k)))
     (degree-vanish h (λ c. F (c ⊞ (pos 1 ∷ [])) -ℤ F c) (d (pos 1 ∷ [])))
-
--- and a constant more changes nothing
-pub degree-vanish-constant : (h : ℕ) (F : List ℤ → ℤ) (c : ℤ) → Degree _⊞_ h F → DifferencesVanish (suc h) (λ k. F (pos k ∷ []) +ℤ c)
-degree-vanish-constant h F c d = degree-vanish h (λ x. F x +ℤ c) (degree-add _⊞_ h F (λ x. c) d (degree-constant _⊞_ h c))
 
 -- ---- the sum of up to four values, as code computes it: each difference is taken of the row before
 
@@ -142,7 +140,8 @@ pub newtonSum-three : (n : ℕ) (a b c : ℤ)
     → newtonSum n (a ∷ b ∷ c ∷ []) ≡ a *ℤ pos n +ℤ ((b -ℤ a) *ℤ pos (choose n 2) +ℤ ((c -ℤ b) -ℤ (b -ℤ a)) *ℤ pos (choose n 3))
 unfolding newtonSum newtonTerms differences
 newtonSum-three n a b c =
-    ap₂ _+ℤ_ (ap (λ (m : ℕ). a *ℤ pos m) (choose-one n)) (ap (λ (z : ℤ). (b -ℤ a) *ℤ pos (choose n 2) +ℤ z) (+ℤ-idr (((c -ℤ b) -ℤ (b -ℤ a)) *ℤ pos (choose n 3))))
+    ap₂ _+ℤ_ (ap (λ (m : ℕ). a *ℤ pos m) (choose-one n))
+    (ap (λ (z : ℤ). (b -ℤ a) *ℤ pos (choose n 2) +ℤ z) (+ℤ-idr (((c -ℤ b) -ℤ (b -ℤ a)) *ℤ pos (choose n 3))))
 
 pub newtonSum-four : (n : ℕ) (a b c d : ℤ)
     → newtonSum n (a ∷ b ∷ c ∷ d ∷ []) ≡ a *ℤ pos n +ℤ ((b -ℤ a) *ℤ pos (choose n 2) +ℤ (((c -ℤ b) -ℤ (b -ℤ a)) *ℤ pos (choose n 3)

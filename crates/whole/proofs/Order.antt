@@ -4,13 +4,13 @@ use mathlib.Core.Bool.{Bool, true, false, not, cond}
 use Prim.Native.Nat.{ℕ, zero, suc, _+_, _*_, _-_, _^_, _≤_, _<_}
 use native.Mathlib.Nat.{mul-le-mul}
 use native.Mathlib.Omega.{arith}
-use lib.IntN.{ℤ, pos, negsuc, negℤ, natAbs, sucℤ, subℕ, _+ℤ_, _-ℤ_, _*ℤ_, sucℤ-+ℤ, +ℤ-assoc, +ℤ-idr}
+use lib.IntN.{ℤ, pos, negsuc, negℤ, natAbs, sucℤ, subℕ, _+ℤ_, _-ℤ_, _*ℤ_, sucℤ-+ℤ, +ℤ-assoc, +ℤ-idr, -ℤ-+ℤ-cancel}
 use lib.Signed.{_≤ℤ_, leZ, mag}
 use lib.Dec.{T, ltb, leb→le, le→leb, ltb→lt, lt→ltb, nleb→lt}
 use mir.Syntax.{w64}
 use mir.Val.{SFits}
 use Rattle.whole.specs.Integer.{larger, atLeastZero}
-use Rattle.whole.proofs.Ring.{collect, parts, ⊖-eq, *ℤ-+ℤ, medial, back, move-left, move-right}
+use Rattle.whole.proofs.Ring.{*ℤ-+ℤ, medial, move-left, move-right}
 
 -- b is a plus a natural
 pub record AtMost (a b : ℤ) : Type 0 where
@@ -77,19 +77,14 @@ pub AtMost-refl : (a : ℤ) → AtMost a a
 AtMost-refl a = record { gap = 0; equation = sym (+ℤ-idr a) }
 
 pub AtMost-trans : (a b c : ℤ) → AtMost a b → AtMost b c → AtMost a c
-AtMost-trans a b c h k = record { gap = h .gap + k .gap; equation = k .equation ∙ ap (λ (x : ℤ). x +ℤ pos (k .gap)) (h .equation) ∙ +ℤ-assoc a (pos (h .gap)) (pos (k .gap)) }
+AtMost-trans a b c h k =
+    record { gap = h .gap + k .gap; equation = k .equation ∙ ap (λ (x : ℤ). x +ℤ pos (k .gap)) (h .equation) ∙ +ℤ-assoc a (pos (h .gap)) (pos (k .gap)) }
 
 pub AtMost-add : (a b c d : ℤ) → AtMost a b → AtMost c d → AtMost (a +ℤ c) (b +ℤ d)
 AtMost-add a b c d h k = record { gap = h .gap + k .gap; equation = (λ i. h .equation i +ℤ k .equation i) ∙ medial a (pos (h .gap)) c (pos (k .gap)) }
 
 pub AtMost-suc : (a b : ℤ) → AtMost a b → AtMost (sucℤ a) (sucℤ b)
 AtMost-suc a b h = record { gap = h .gap; equation = ap sucℤ (h .equation) ∙ sym (sucℤ-+ℤ a (pos (h .gap))) }
-
-pub AtMost-neg : (a b : ℤ) → AtMost a b → AtMost (negℤ b) (negℤ a)
-AtMost-neg a b h = record { gap = h .gap; equation = identity a (pos (h .gap)) ∙ ap (λ (x : ℤ). negℤ x +ℤ pos (h .gap)) (sym (h .equation)) }
-  where
-    identity : (a g : ℤ) → negℤ a ≡ negℤ (a +ℤ g) +ℤ g
-    identity a g = rw (parts a, parts g) (simp collect (⊖-eq _ _ _ _ (omega arith)))
 
 -- a factor that is not negative keeps the order, and a negative one turns it
 pub AtMost-scale-pos : (k : ℕ) (a b : ℤ) → AtMost a b → AtMost (pos k *ℤ a) (pos k *ℤ b)
@@ -100,7 +95,7 @@ AtMost-scale-negsuc k a b h = record {
   gap = suc k * h .gap;
   equation = sym (
       ap (λ (x : ℤ). x +ℤ pos (suc k * h .gap)) (ap (λ (x : ℤ). negsuc k *ℤ x) (h .equation) ∙ *ℤ-+ℤ (negsuc k) a (pos (h .gap)))
-      ∙ back (negsuc k *ℤ a) (pos (suc k * h .gap)));
+      ∙ -ℤ-+ℤ-cancel (negsuc k *ℤ a) (pos (suc k * h .gap)));
 }
 
 -- naturals among the integers

@@ -2,7 +2,7 @@
 use mathlib.Core.Path.{_≡_, sym, _∙_, ap, ap₂}
 use Prim.Native.Nat.{ℕ, zero, _+_, _*_, _/_, _%_, _<_}
 use native.Mathlib.Omega.{arith}
-use native.Mathlib.Nat.{div-add-mod', mod-eq-of-lt}
+use native.Mathlib.Nat.{div-add-mod'}
 use lib.IntN.{ℤ, pos, _+ℤ_, _-ℤ_, _*ℤ_}
 use Rattle.whole.specs.Integer.{floorDivide, floorRemainder}
 use Rattle.whole.specs.Newton.{weightedDifferences}
@@ -20,7 +20,12 @@ module _ (M : ℕ) where
       identity a m = rw (parts a, parts m) (simp collect (⊖-eq _ _ _ _ (omega arith)))
 
   pub congruent-add : {a b : ℕ} {x y : ℤ} → Congruent M a x → Congruent M b y → Congruent M (a + b) (x +ℤ y)
-  congruent-add {a} {b} h i = record { quotient = h .quotient +ℤ i .quotient; equation = ap₂ _+ℤ_ (h .equation) (i .equation) ∙ identity (pos a) (pos b) (h .quotient) (i .quotient) (pos M) }
+  congruent-add {a} {b} h i =
+      record {
+        quotient = h .quotient +ℤ i .quotient;
+        equation = ap₂ _+ℤ_ (h .equation) (i .equation)
+            ∙ identity (pos a) (pos b) (h .quotient) (i .quotient) (pos M);
+      }
     where
       identity : (a b k l m : ℤ) → (a +ℤ k *ℤ m) +ℤ (b +ℤ l *ℤ m) ≡ (a +ℤ b) +ℤ (k +ℤ l) *ℤ m
       identity a b k l m = simp expand (simp sort-sums)
@@ -38,7 +43,8 @@ module _ (M : ℕ) where
   pub congruent-mod : {a : ℕ} {z : ℤ} → Congruent M a z → Congruent M (a % M) z
   congruent-mod {a} h = record {
     quotient = h .quotient +ℤ pos (a / M);
-    equation = h .equation ∙ ap (λ (n : ℕ). pos n +ℤ h .quotient *ℤ pos M) (sym (div-add-mod' a M)) ∙ identity (pos (a / M)) (pos M) (pos (a % M)) (h .quotient);
+    equation =
+        h .equation ∙ ap (λ (n : ℕ). pos n +ℤ h .quotient *ℤ pos M) (sym (div-add-mod' a M)) ∙ identity (pos (a / M)) (pos M) (pos (a % M)) (h .quotient);
   }
     where
       identity : (q m r k : ℤ) → (q *ℤ m +ℤ r) +ℤ k *ℤ m ≡ r +ℤ (k +ℤ q) *ℤ m
@@ -47,7 +53,9 @@ module _ (M : ℕ) where
   pub congruent-unmod : (a : ℕ) {z : ℤ} → Congruent M (a % M) z → Congruent M a z
   congruent-unmod a h = record {
     quotient = h .quotient -ℤ pos (a / M);
-    equation = h .equation ∙ identity (pos (a / M)) (pos M) (pos (a % M)) (h .quotient) ∙ ap (λ (n : ℕ). pos n +ℤ (h .quotient -ℤ pos (a / M)) *ℤ pos M) (div-add-mod' a M);
+    equation =
+        h .equation ∙ identity (pos (a / M)) (pos M) (pos (a % M)) (h .quotient)
+        ∙ ap (λ (n : ℕ). pos n +ℤ (h .quotient -ℤ pos (a / M)) *ℤ pos M) (div-add-mod' a M);
   }
     where
       identity : (q m r k : ℤ) → r +ℤ k *ℤ m ≡ (q *ℤ m +ℤ r) +ℤ (k -ℤ q) *ℤ m
@@ -63,7 +71,11 @@ module _ (M : ℕ) where
   pub congruent-wrapping-sub : {a b r : ℕ} {x y : ℤ} → (r + b) % M ≡ a → Congruent M a x → Congruent M b y → Congruent M r (x -ℤ y)
   congruent-wrapping-sub {b} {r} {x} e h i =
       let j : Congruent M (r + b) x = congruent-unmod (r + b) (rw e h) in
-      record { quotient = j .quotient -ℤ i .quotient; equation = ap₂ _-ℤ_ (j .equation) (i .equation) ∙ identity (pos r) (pos b) (j .quotient) (i .quotient) (pos M) }
+      record {
+        quotient = j .quotient -ℤ i .quotient;
+        equation = ap₂ _-ℤ_ (j .equation) (i .equation)
+            ∙ identity (pos r) (pos b) (j .quotient) (i .quotient) (pos M);
+      }
     where
       identity : (r b k l m : ℤ) → ((r +ℤ b) +ℤ k *ℤ m) -ℤ (b +ℤ l *ℤ m) ≡ r +ℤ (k -ℤ l) *ℤ m
       identity r b k l m = rw (parts r, parts b, parts k, parts l, parts m) (simp collect (⊖-eq _ _ _ _ (omega arith)))
@@ -74,14 +86,6 @@ module _ (M : ℕ) where
 
   pub congruent-unique : {r : ℕ} {z : ℤ} → r < M → Congruent M r z → r ≡ floorRemainder z M
   congruent-unique {r} r-below h = sym (ap (λ (z : ℤ). floorRemainder z M) (h .equation) ∙ floorRemainder-unique (h .quotient) r M r-below)
-
-  -- for a natural it is the natural's remainder, and the natural itself where that is below the modulus too
-  pub congruent-residue : {r n : ℕ} → r < M → Congruent M r (pos n) → r ≡ n % M
-  unfolding floorRemainder
-  congruent-residue r-below h = congruent-unique r-below h
-
-  pub congruent-exact : {r n : ℕ} → r < M → n < M → Congruent M r (pos n) → r ≡ n
-  congruent-exact r-below n-below h = congruent-residue r-below h ∙ mod-eq-of-lt n-below
 
 -- ---- Newton's sum modulo M, from residues of four values and of the weights
 -- t0, t1, .. are residues of the values v0, v1, .., c1, c2, .. those of the weights w1, w2, ..; d21 is the wrapped difference of order 2 at 1;

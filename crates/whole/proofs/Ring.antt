@@ -6,15 +6,13 @@
 --       rw (parts a, parts b) (simp collect (⊖-eq _ _ _ _ (omega arith)))
 --   A hypothesis h, for omega to read:
 --       let k = ⊖-inj _ _ _ _ (simp collect at (rw (parts a, parts b) at h)) in ..
---   That an integer is not negative: `⊖-nonneg` proves it, `nonneg-⊖` reads it, in the same way.
 --   omega takes at most 64 monomials and a monomial of degree d is 2^d of them here, so this serves up to degree 2, or 3 where terms are few.
 -- Products of any degree, where nothing cancels: `simp expand (simp (sort-sums, sort-products))`.
-use mathlib.Core.Path.{_≡_, refl, sym, _∙_, ap, subst, _≡⟨_⟩_, _∎}
-use Prim.Native.Nat.{ℕ, zero, suc, _+_, _*_, _-_, _≤_}
+use mathlib.Core.Path.{_≡_, sym, _∙_, ap, _≡⟨_⟩_, _∎}
+use Prim.Native.Nat.{ℕ, zero, suc, _+_, _*_}
 use native.Mathlib.Omega.{arith}
-use lib.Dec.{T}
-use lib.Signed.{nonNeg, pos-natAbs}
-use lib.IntN.{ℤ, pos, negsuc, sucℤ, predℤ, negℤ, natAbs, _+ℤ_, _-ℤ_, _*ℤ_, negℤ-negℤ, sucℤ-+ℤ, predℤ-+ℤ, +ℤ-idl, +ℤ-idr, +ℤ-assoc, +ℤ-comm, +ℤ-invl, +ℤ-invr, negℤ-+ℤ, +ℤ-negℤ-cancel, -ℤ-+ℤ-cancel, sucℤ-*ℤ, predℤ-*ℤ, *ℤ-comm, zero-*ℤ, *ℤ-one, one}
+use lib.IntN.{ℤ, pos, negsuc, sucℤ, predℤ, negℤ, natAbs, _+ℤ_, _-ℤ_, _*ℤ_, negℤ-negℤ, sucℤ-+ℤ, predℤ-+ℤ, +ℤ-idl, +ℤ-idr, +ℤ-assoc}
+use lib.IntN.{+ℤ-comm, +ℤ-invl, +ℤ-invr, negℤ-+ℤ, +ℤ-negℤ-cancel, -ℤ-+ℤ-cancel, sucℤ-*ℤ, predℤ-*ℤ, *ℤ-comm, zero-*ℤ, *ℤ-one, one}
 
 -- ---- induction
 
@@ -142,19 +140,9 @@ pub ⊖-inj : (a b c d : ℕ) → a ⊖ b ≡ c ⊖ d → a + d ≡ c + b
 unfolding _⊖_
 ⊖-inj a b c d h = ap natAbs (sym (restore (pos a) (pos b) (pos d)) ∙ ap (λ (z : ℤ). z +ℤ (pos b +ℤ pos d)) h ∙ restore-swapped (pos c) (pos d) (pos b))
 
-pub ⊖-nonneg : (a b : ℕ) → b ≤ a → T (nonNeg (a ⊖ b))
-⊖-nonneg a b h = subst (λ (z : ℤ). T (nonNeg z)) (pos-⊖ (a - b) ∙ ⊖-eq (a - b) zero a b (omega arith)) tt
+-- ---- identities used over and over
 
-pub nonneg-⊖ : (a b : ℕ) → T (nonNeg (a ⊖ b)) → b ≤ a
-nonneg-⊖ a b t = let e = ⊖-inj (natAbs (a ⊖ b)) zero a b (sym (pos-⊖ (natAbs (a ⊖ b))) ∙ pos-natAbs (a ⊖ b) t) in omega arith
-
--- ---- identities used over and over; the first two are examples of the recipe
-
--- two differences in a row
-pub chain : (a b c : ℤ) → (a -ℤ b) +ℤ (b -ℤ c) ≡ a -ℤ c
-chain a b c = rw (parts a, parts b, parts c) (simp collect (⊖-eq _ _ _ _ (omega arith)))
-
--- with a hypothesis
+-- an example of the recipe, with a hypothesis
 pub move-left : (a b c : ℤ) → a ≡ b +ℤ c → a -ℤ b ≡ c
 move-left a b c h =
     let k = ⊖-inj _ _ _ _ (simp collect at (rw (parts a, parts b, parts c) at h)) in
@@ -162,13 +150,6 @@ move-left a b c h =
 
 pub move-right : (a b c : ℤ) → a -ℤ b ≡ c → a ≡ b +ℤ c
 move-right a b c h = sym (-ℤ-+ℤ-cancel a b) ∙ ap (λ (z : ℤ). z +ℤ b) h ∙ +ℤ-comm c b
-
--- what is taken away and added again
-pub back : (a b : ℤ) → (a -ℤ b) +ℤ b ≡ a
-back a b = -ℤ-+ℤ-cancel a b
-
-pub add-sub : (a b : ℤ) → (a +ℤ b) -ℤ a ≡ b
-add-sub a b = move-left (a +ℤ b) a b refl
 
 -- the two inner terms of a sum of sums, exchanged
 pub medial : (a b c d : ℤ) → (a +ℤ b) +ℤ (c +ℤ d) ≡ (a +ℤ c) +ℤ (b +ℤ d)

@@ -1,11 +1,10 @@
--- Sums: whatever starts at 0 and grows by f is the sum of f; sums of sums, of differences, and of two stretches.
+-- Sums: whatever starts at 0 and grows by f is the sum of f; sums of differences, and of two stretches.
 use mathlib.Core.Path.{_≡_, refl, sym, _∙_, ap}
-use Prim.Native.Nat.{ℕ, zero, suc, _+_, _<_}
-use native.Mathlib.Nat.{add-zero, add-suc}
+use Prim.Native.Nat.{ℕ, zero, suc, _<_}
 use native.Mathlib.Omega.{arith}
-use lib.IntN.{ℤ, pos, negsuc, sucℤ, predℤ, _+ℤ_, _-ℤ_, suc-pred, +ℤ-sucℤ, +ℤ-idr, +ℤ-assoc, +ℤ-invl, +ℤ-invr}
+use lib.IntN.{ℤ, pos, negsuc, sucℤ, predℤ, _+ℤ_, _-ℤ_, suc-pred, +ℤ-sucℤ, +ℤ-idr, +ℤ-invl, +ℤ-invr, -ℤ-+ℤ-cancel}
 use Rattle.whole.specs.Sum.{total, sumTo}
-use Rattle.whole.proofs.Ring.{ℤ-induction, collect, parts, ⊖-eq, cancel-right, move-right, back, medial, sub-medial}
+use Rattle.whole.proofs.Ring.{ℤ-induction, collect, parts, ⊖-eq, cancel-right, move-right, sub-medial}
 
 -- ---- up to an integer
 
@@ -17,7 +16,7 @@ pub sumTo-suc : (n : ℤ) (f : ℤ → ℤ) → sumTo (sucℤ n) f ≡ sumTo n f
 unfolding sumTo
 sumTo-suc (pos n) f = refl
 sumTo-suc (negsuc zero) f = sym (+ℤ-invl (f (negsuc zero)))
-sumTo-suc (negsuc (suc n)) f = sym (back (sumTo (negsuc n) f) (f (negsuc (suc n))))
+sumTo-suc (negsuc (suc n)) f = sym (-ℤ-+ℤ-cancel (sumTo (negsuc n) f) (f (negsuc (suc n))))
 
 pub sumTo-pred : (n : ℤ) (f : ℤ → ℤ) → sumTo n f ≡ sumTo (predℤ n) f +ℤ f (predℤ n)
 sumTo-pred n f = ap (λ (m : ℤ). sumTo m f) (sym (suc-pred n)) ∙ sumTo-suc (predℤ n) f
@@ -26,10 +25,6 @@ pub sumTo-unique : (h f : ℤ → ℤ) → h (pos zero) ≡ pos zero → ((n : �
 sumTo-unique h f base grows = ℤ-induction (λ n. h n ≡ sumTo n f) (base ∙ sym (sumTo-zero f))
     (λ k e. grows k ∙ ap (λ (x : ℤ). x +ℤ f k) e ∙ sym (sumTo-suc k f))
     (λ k e. cancel-right (h (predℤ k)) (sumTo (predℤ k) f) (f (predℤ k)) (sym (grows (predℤ k)) ∙ ap h (suc-pred k) ∙ e ∙ sumTo-pred k f))
-
-pub sumTo-add : (n : ℤ) (f g : ℤ → ℤ) → sumTo n (λ k. f k +ℤ g k) ≡ sumTo n f +ℤ sumTo n g
-sumTo-add n f g = sym (sumTo-unique (λ n. sumTo n f +ℤ sumTo n g) (λ k. f k +ℤ g k) (simp sumTo-zero)
-    (λ k. simp sumTo-suc (medial (sumTo k f) (f k) (sumTo k g) (g k))) n)
 
 pub sumTo-sub : (n : ℤ) (f g : ℤ → ℤ) → sumTo n (λ k. f k -ℤ g k) ≡ sumTo n f -ℤ sumTo n g
 sumTo-sub n f g = sym (sumTo-unique (λ n. sumTo n f -ℤ sumTo n g) (λ k. f k -ℤ g k) (simp sumTo-zero)
@@ -57,25 +52,3 @@ pub total-extensional : (n : ℕ) (f g : ℕ → ℤ) → ((k : ℕ) → k < n �
 unfolding total
 total-extensional zero f g h = refl
 total-extensional (suc n) f g h = λ i. total-extensional n f g (λ k l. h k (omega arith)) i +ℤ h n (omega arith) i
-
-pub total-unique : (h f : ℕ → ℤ) → h zero ≡ pos zero → ((n : ℕ) → h (suc n) ≡ h n +ℤ f n) → (n : ℕ) → h n ≡ total n f
-unfolding total
-total-unique h f base grows zero = base
-total-unique h f base grows (suc n) = grows n ∙ ap (λ (z : ℤ). z +ℤ f n) (total-unique h f base grows n)
-
-pub total-add : (n : ℕ) (f g : ℕ → ℤ) → total n (λ k. f k +ℤ g k) ≡ total n f +ℤ total n g
-unfolding total
-total-add zero f g = refl
-total-add (suc n) f g = ap (λ (z : ℤ). z +ℤ (f n +ℤ g n)) (total-add n f g) ∙ medial (total n f) (total n g) (f n) (g n)
-
-pub total-sub : (n : ℕ) (f g : ℕ → ℤ) → total n (λ k. f k -ℤ g k) ≡ total n f -ℤ total n g
-unfolding total
-total-sub zero f g = refl
-total-sub (suc n) f g = ap (λ (z : ℤ). z +ℤ (f n -ℤ g n)) (total-sub n f g) ∙ sym (sub-medial (total n f) (f n) (total n g) (g n))
-
-pub total-append : (n m : ℕ) (f : ℕ → ℤ) → total (n + m) f ≡ total n f +ℤ total m (λ k. f (n + k))
-unfolding total
-total-append n zero f = ap (λ (j : ℕ). total j f) (add-zero n) ∙ sym (+ℤ-idr (total n f))
-total-append n (suc m) f =
-    ap (λ (j : ℕ). total j f) (add-suc n m) ∙ ap (λ (z : ℤ). z +ℤ f (n + m)) (total-append n m f)
-    ∙ +ℤ-assoc (total n f) (total m (λ k. f (n + k))) (f (n + m))

@@ -1,4 +1,4 @@
-pub mod Patterns
+pub mod Fits
 pub mod Bodies
 pub mod Blanks
 pub mod Given

@@ -3,34 +3,37 @@ use mathlib.Core.Path.{_≡_, refl, sym, ap, _∙_}
 use mathlib.Core.List.{List, [], _++_, map}
 use mathlib.Core.Bool.{Bool}
 use Prim.Native.Nat.{ℕ, _-_, _<_, _≤_}
-use native.Mathlib.Nat.{zero-add}
 use native.Mathlib.Omega.{arith}
 use lib.Dec.{leb, le→leb}
 use lib.ListN.{length, take, drop, replicate, length-map}
-use lib.Seq.{paste, take-length, length-take-le}
-use Rattle.meaning.specs.Limits.{recordLimit}
-use Rattle.meaning.specs.Record as M
+use lib.Seq.{length-take-le}
+use borrow.Author.Tests.{le-leb, lt-leb}
+use Rattle.meaning.specs.Limits.{recordLimit, sheetLengthLimit}
 use Rattle.meaning.specs.Record.{sheetLength, sheetBytes}
 use Rattle.meaning.specs.Reader.{Result, ok, refused, require, andThen, read}
 use Rattle.meaning.specs.Writer.{Written, checkFrom, check, store, write}
-use Rattle.meaning.proofs.Logic.{refused-is-not-ok, require-ok, require-yes, leb-no}
+use Rattle.meaning.specs.Record as M
+use Rattle.meaning.proofs.Logic.{refused-is-not-ok, ok-injective, require-ok, require-yes}
 use Rattle.meaning.proofs.Written.{write-ok}
-use Rattle.sheet.specs.declared.record.Record.{Record}
-use Rattle.sheet.specs.View.{blankRecord, rawRecordOf, recordIn}
-use Rattle.sheet.specs.Answers.{counted, listed}
+use Rattle.encoding.specs.Append.{Appended}
+use Rattle.encoding.proofs.Appending.{from-start, length-written}
+use Rattle.records.specs.declared.Record.{Record}
+use Rattle.records.specs.View.{blankRecord, rawRecordOf, recordIn}
+use Rattle.sheet.specs.Answers.{counted, withBlanks}
+use Rattle.sheet.specs.Sheets.{recordsIn}
 use Rattle.writer.specs.Writing.{measured, SheetLaid}
 
 -- ---- a measured result
 
-measured-refused : (x : Result (List M.Record)) (number place : ℕ) → refused number place ≡ measured x → x ≡ refused number place
+measured-refused : (x : Result (List M.Record)) {number place : ℕ} → refused number place ≡ measured x → x ≡ refused number place
 unfolding measured
-measured-refused (ok rs) number place e = refused-is-not-ok e
-measured-refused (refused n p) number place e = let q : n ≡ number = cc in let r : p ≡ place = cc in λ i. refused (q i) (r i)
+measured-refused (ok rs) e = refused-is-not-ok e
+measured-refused (refused n p) {number} {place} e = let q : n ≡ number = cc in let r : p ≡ place = cc in λ i. refused (q i) (r i)
 
-measured-ok : (x : Result (List M.Record)) (n : ℕ) → ok n ≡ measured x → (rs : List M.Record) × (x ≡ ok rs) × (n ≡ sheetLength rs)
+measured-ok : (x : Result (List M.Record)) {n : ℕ} → ok n ≡ measured x → (rs : List M.Record) × (x ≡ ok rs) × (n ≡ sheetLength rs)
 unfolding measured
-measured-ok (ok rs) n e = (rs, refl, (let z : n ≡ sheetLength rs = cc in z))
-measured-ok (refused m p) n e = refused-is-not-ok (sym e)
+measured-ok (ok rs) e = (rs, refl, ok-injective e)
+measured-ok (refused m p) e = refused-is-not-ok (sym e)
 
 -- ---- the writer
 
@@ -41,48 +44,53 @@ module _ (records : List Record) (count : ℕ) (buffer : List ℕ) where
   abbrev whole : Result (List M.Record)
   whole = checkFrom 0 [] (take count (map rawRecordOf records))
 
+  -- reading the first n bytes gives the records back
+  abbrev Undone : List ℕ → ℕ → Type 0
+  Undone left n =
+      (counted (read (take n left)) ≡ ok count) × (withBlanks (read (take n left)) ≡ take count records ++ replicate (recordLimit - count) (blankRecord 0))
+
   -- what the writer's contract promises of an answer and of the buffer as it is left
   abbrev Promised : Result ℕ → List ℕ → Type 0
-  Promised r left =
-      (r ≡ outcome .result)
-      × ((left ≡ outcome .buffer)
-      × ((n : ℕ) → r ≡ ok n → (counted (read (take n left)) ≡ ok count) × (listed (read (take n left)) ≡ take count records ++ replicate (64 - count) (blankRecord 0))))
+  Promised r left = (r ≡ outcome .result) × ((left ≡ outcome .buffer) × ((n : ℕ) → r ≡ ok n → Undone left n))
 
   abbrev last : List M.Record → Result (List ℕ)
   last rs = require (leb (length (sheetBytes rs)) (length buffer)) 9 0 (ok (sheetBytes rs))
 
-  refusal : (number place : ℕ) → outcome ≡ store buffer (refused number place) → Promised (refused number place) buffer
+  refusal : {number place : ℕ} → outcome ≡ store buffer (refused number place) → Promised (refused number place) buffer
   unfolding store
-  refusal number place e = (sym (ap (λ (w : Written). w .result) e), (sym (ap (λ (w : Written). w .buffer) e), λ n q. refused-is-not-ok q))
+  refusal e = (sym (ap (λ (w : Written). w .result) e), (sym (ap (λ (w : Written). w .buffer) e), λ n q. refused-is-not-ok q))
 
-  pub too-many : 64 < count → Promised (refused 4 0) buffer
+  pub too-many : recordLimit < count → Promised (refused 4 0) buffer
   unfolding write check require andThen
-  too-many h = refusal 4 0 (ap (λ (b : Bool). store buffer (andThen (require b 4 0 whole) last)) (leb-no count recordLimit h))
+  too-many h = refusal (ap (λ (b : Bool). store buffer (andThen (require b 4 0 whole) last)) (lt-leb count recordLimit h))
 
-  module _ (few : count ≤ 64) where
-    with-check : (x : Result (List M.Record)) → whole ≡ x → outcome ≡ store buffer (andThen x last)
+  module _ (few : count ≤ recordLimit) where
+    with-check : {x : Result (List M.Record)} → whole ≡ x → outcome ≡ store buffer (andThen x last)
     unfolding write check
-    with-check x e = ap (λ (y : Result (List M.Record)). store buffer (andThen y last)) (require-yes (leb count recordLimit) 4 0 whole (le→leb count recordLimit few) ∙ e)
+    with-check e =
+        ap (λ (y : Result (List M.Record)). store buffer (andThen y last)) (require-yes (leb count recordLimit) 4 0 whole (le→leb count recordLimit few) ∙ e)
 
-    pub not-laid-out : (number place : ℕ) → refused number place ≡ measured whole → Promised (refused number place) buffer
+    pub not-laid-out : {number place : ℕ} → refused number place ≡ measured whole → Promised (refused number place) buffer
     unfolding andThen
-    not-laid-out number place e = refusal number place (with-check (refused number place) (measured-refused whole number place e))
+    not-laid-out e = refusal (with-check (measured-refused whole e))
 
-    module _ (all : length records ≡ 64) (sheet : List ℕ) (long : length sheet ≡ 1600) (laid : (rs : List M.Record) → whole ≡ ok rs → SheetLaid records count rs sheet)
-        (n : ℕ) (e : ok n ≡ measured whole) where
+    module _ (all : length records ≡ recordLimit) {sheet : List ℕ} (long : length sheet ≡ sheetLengthLimit)
+        (laid : (rs : List M.Record) → whole ≡ ok rs → SheetLaid records count rs sheet) {n : ℕ} (e : ok n ≡ measured whole) where
       abbrev rs : List M.Record
-      rs = measured-ok whole n e .0
+      rs = measured-ok whole e .0
 
       is-laid : SheetLaid records count rs sheet
-      is-laid = laid rs (measured-ok whole n e .1)
+      is-laid = laid rs (measured-ok whole e .1)
 
-      pub length-fits : n ≤ 1600
-      length-fits = omega (arith, measured-ok whole n e .2, is-laid .fits)
+      pub length-fits : n ≤ sheetLengthLimit
+      length-fits = omega (arith, measured-ok whole e .2, is-laid .fits)
 
       part-is : take (n - 0) sheet ≡ sheetBytes rs
-      part-is = let m : n - 0 ≡ sheetLength rs = omega (arith, measured-ok whole n e .2) in ap (λ (x : ℕ). take x sheet) m ∙ is-laid .stored
+      part-is =
+          let m : n - 0 ≡ sheetLength rs = omega (arith, measured-ok whole e .2) in
+          ap (λ (x : ℕ). take x sheet) m ∙ is-laid .stored
 
-      pub part-long : length (take (n - 0) sheet) ≡ n
+      part-long : length (take (n - 0) sheet) ≡ n
       part-long = length-take-le (n - 0) sheet (omega (arith, length-fits)) ∙ omega arith
 
       size : n ≡ length (sheetBytes rs)
@@ -92,40 +100,38 @@ module _ (records : List Record) (count : ℕ) (buffer : List ℕ) where
       unfolding andThen require
       too-short h =
           let no : length buffer < length (sheetBytes rs) = omega (arith, size) in
-          refusal 9 0 (with-check (ok rs) (measured-ok whole n e .1) ∙ ap (λ (b : Bool). store buffer (require b 9 0 (ok (sheetBytes rs)))) (leb-no (length (sheetBytes rs)) (length buffer) no))
+          refusal (with-check (measured-ok whole e .1)
+          ∙ ap (λ (b : Bool). store buffer (require b 9 0 (ok (sheetBytes rs)))) (lt-leb (length (sheetBytes rs)) (length buffer) no))
 
       module _ (room : n ≤ length buffer) where
         stored : outcome ≡ store buffer (ok (sheetBytes rs))
-        unfolding andThen
+        unfolding andThen require
         stored =
             let yes : length (sheetBytes rs) ≤ length buffer = omega (arith, size) in
-            with-check (ok rs) (measured-ok whole n e .1)
-            ∙ ap (store buffer) (require-yes (leb (length (sheetBytes rs)) (length buffer)) 9 0 (ok (sheetBytes rs)) (le→leb (length (sheetBytes rs)) (length buffer) yes))
+            with-check (measured-ok whole e .1)
+            ∙ ap (λ (b : Bool). store buffer (require b 9 0 (ok (sheetBytes rs)))) (le-leb (length (sheetBytes rs)) (length buffer) yes)
 
-        module _ (left : List ℕ) (copied : left ≡ paste buffer 0 (take (n - 0) sheet) (length (take (n - 0) sheet))) where
-          answer-is : ok n ≡ outcome .result
+        -- the sheet is put at the buffer's start
+        module _ {left : List ℕ} {m : ℕ} (copied : Appended buffer 0 (take (n - 0) sheet) left m) where
+          answer-is : ok m ≡ outcome .result
           unfolding store
-          answer-is = ap {B = Result ℕ} ok size ∙ sym (ap (λ (w : Written). w .result) stored)
+          answer-is = ap {B = Result ℕ} ok (length-written copied ∙ part-long ∙ size) ∙ sym (ap (λ (w : Written). w .result) stored)
 
           left-is : left ≡ outcome .buffer
           unfolding store
           left-is =
-              let part : List ℕ = take (n - 0) sheet in
-              copied
-              ∙ (λ i. take-length part i ++ drop (zero-add (length part) i) buffer)
-              ∙ ap (λ (l : List ℕ). l ++ drop (length l) buffer) part-is
-              ∙ sym (ap (λ (w : Written). w .buffer) stored)
+              from-start copied ∙ ap (λ (l : List ℕ). l ++ drop (length l) buffer) part-is ∙ sym (ap (λ (w : Written). w .buffer) stored)
 
-          undone : (m : ℕ) → ok n ≡ ok m → (counted (read (take m left)) ≡ ok count) × (listed (read (take m left)) ≡ take count records ++ replicate (64 - count) (blankRecord 0))
-          unfolding check counted listed
-          undone m q =
-              let w = write-ok (map rawRecordOf records) count buffer m (sym answer-is ∙ q) in
+          undone : (j : ℕ) → ok m ≡ ok j → Undone left j
+          unfolding check counted withBlanks recordsIn
+          undone j q =
+              let w = write-ok (map rawRecordOf records) count buffer j (sym answer-is ∙ q) in
               let checked : whole ≡ ok (w .written) = require-ok (leb count recordLimit) 4 0 whole (w .written) (w .checked) .1 in
               let given : map recordIn (w .written) ≡ take count records = laid (w .written) checked .given in
               let same : length (w .written) ≡ count =
               sym (length-map (w .written) recordIn) ∙ ap (λ (l : List Record). length l) given ∙ length-take-le count records (omega (arith, all)) in
-              let back : read (take m left) ≡ ok (w .written) = ap (λ (l : List ℕ). read (take m l)) left-is ∙ w .readBack in
-              (ap counted back ∙ ap {B = Result ℕ} ok same, ap listed back ∙ (λ i. given i ++ replicate (64 - same i) (blankRecord 0)))
+              let back : read (take j left) ≡ ok (w .written) = ap (λ (l : List ℕ). read (take j l)) left-is ∙ w .readBack in
+              (ap counted back ∙ ap {B = Result ℕ} ok same, ap withBlanks back ∙ (λ i. given i ++ replicate (recordLimit - same i) (blankRecord 0)))
 
-          pub written : Promised (ok n) left
+          pub written : Promised (ok m) left
           written = (answer-is, (left-is, undone))

@@ -1,3 +1,2 @@
-pub mod Fits
 pub mod Answers
 pub mod Writing

@@ -8,8 +8,9 @@ use lib.ListN.{take}
 use Rattle.meaning.specs.Record as M
 use Rattle.meaning.specs.Record.{recordLength, recordBytes, sheetLength, sheetBytes}
 use Rattle.meaning.specs.Reader.{Result, ok, refused}
-use Rattle.sheet.specs.declared.record.Record.{Record}
-use Rattle.sheet.specs.View.{recordIn}
+use Rattle.records.specs.declared.Record.{Record}
+use Rattle.meaning.specs.Limits.{sheetLengthLimit}
+use Rattle.records.specs.View.{recordIn}
 
 -- every byte is 0
 unfoldable pub allBlank : List ℕ → Bool
@@ -30,4 +31,4 @@ pub record RecordLaid (item : Record) (at : ℕ) (x : M.Record) (before after : 
 pub record SheetLaid (items : List Record) (count : ℕ) (rs : List M.Record) (sheet : List ℕ) : Type 0 where
   pub given : map recordIn rs ≡ take count items
   pub stored : take (sheetLength rs) sheet ≡ sheetBytes rs
-  pub fits : sheetLength rs ≤ 1600
+  pub fits : sheetLength rs ≤ sheetLengthLimit

@@ -1,32 +1,39 @@
 // The writer: the sheet that holds given records, or refusal 4, 2, 3, 5 or 9 with its place.
-mod encode;
+mod body;
 
 ghost use mathlib.Core.Path.{_≡_};
 ghost use mathlib.Core.List.{List, [], _++_, map};
+ghost use mathlib.Core.Bool.{_&&_};
 ghost use mathlib.Core.Option.{some};
 ghost use Prim.Native.Nat.{ℕ, _+_, _-_, _≤_};
+ghost use lib.Dec.{eqb};
 ghost use lib.ListN.{length, take, replicate};
+ghost use Rattle.meaning.specs.Limits.{recordLimit, recordLengthLimit, sheetLengthLimit};
 ghost use Rattle.meaning.specs.Record as M;
 ghost use Rattle.meaning.specs.Record.{Kind, kindOf, Open};
 ghost use Rattle.meaning.specs.Reader.{ok, Accepted, read};
-ghost use Rattle.meaning.specs.Writer.{workFieldsZero, loopFieldsZero, foreignFieldsZero, checkRecord, checkFrom, write};
-ghost use Rattle.sheet.specs.View.{blankRecord, loopOf, rawRecordOf};
+ghost use Rattle.meaning.specs.Writer.{loopFieldsZero, foreignFieldsZero, checkRecord, checkFrom, write};
+ghost use Rattle.records.specs.View.{blankRecord, loopOf, rawRecordOf};
 ghost use Rattle.sheet.specs.Nestings.{nestingOf};
-ghost use Rattle.sheet.specs.Answers.{stepResult, stepOf, counted, listed};
+ghost use Rattle.sheet.specs.Answers.{acceptedResult, acceptedOf, counted, withBlanks};
 ghost use Rattle.writer.specs.Answers.{writeResult};
 ghost use Rattle.writer.specs.Writing.{allBlank, measured, RecordLaid, SheetLaid};
-use crate::encode::body_of;
-use crate::encode::copy;
-use crate::encode::loop_body;
+use crate::body::put_body;
+use crate::body::put_loop;
+use encoding::put::put;
+use encoding::put::put_byte;
+use records::LOOP;
+use records::MAX_RECORDS;
+use records::MAX_SHEET_LENGTH;
+use records::NEXT_ARM;
+use records::Record;
+use records::Records;
+use records::WORK;
+use records::loops::Loop;
+use records::work::Work;
 use sheet::nesting::Nesting;
-use sheet::nesting::Step;
+use sheet::nesting::RecordAnswer;
 use sheet::nesting::accept_record;
-use sheet::record::LOOP;
-use sheet::record::MAX_RECORDS;
-use sheet::record::NEXT_ARM;
-use sheet::record::Record;
-use sheet::record::WORK;
-use sheet::record::body_length;
 use sheet::refusal::Refusal;
 
 pub enum WriteAnswer {
@@ -47,17 +54,18 @@ fn all_blank(bytes: &[u8]) -> bool
     true
 }
 
-fn work_blank(item: Record) -> bool
-    ensures { λ r. ⌜ r ≡ workFieldsZero (rawRecordOf item) ⌝ }
+fn work_blank(fields: Work) -> bool
+    ensures { λ r. ⌜ r ≡ eqb (fields .least) 0 && eqb (fields .most) 0 ⌝ }
 {
-    item.least == 0 && item.most == 0
+    fields.least == 0 && fields.most == 0
 }
 
 // The fields of a loop are 0 where all bytes of the body are that they make.
-fn loop_blank(item: Record) -> bool
-    ensures { λ r. ⌜ r ≡ loopFieldsZero (loopOf item) ⌝ }
+fn loop_blank(fields: Loop) -> bool
+    ensures { λ r. ⌜ r ≡ loopFieldsZero (loopOf fields) ⌝ }
 {
-    let body = loop_body(item);
+    let mut body: [u8; Loop::BODY_LENGTH] = [0; Loop::BODY_LENGTH];
+    put_loop(&mut body, 0, fields);
     all_blank(&body)
 }
 
@@ -65,63 +73,63 @@ fn loop_blank(item: Record) -> bool
 fn foreign_blank(item: Record) -> bool
     ensures { λ r. ⌜ ((k : Kind) → kindOf (item .kind) ≡ some k → r ≡ foreignFieldsZero k (rawRecordOf item)) ⌝ }
 {
+    let work = item.work;
+    let looping = item.looping;
     if item.kind == WORK {
-        return loop_blank(item);
+        return loop_blank(looping);
     }
     if item.kind == LOOP {
-        return work_blank(item);
+        return work_blank(work);
     }
-    work_blank(item) && loop_blank(item)
+    work_blank(work) && loop_blank(looping)
 }
 
 // Refusals 2, 3 and 5, in this order, of a record at the offset that it would have. Its bytes are stored there; where it is refused they are not used.
-fn lay_record(item: Record, at: usize, here: Nesting, sheet: &mut [u8]) -> Step
-    requires { ⌜ at + 25 ≤ length (now sheet) ⌝ }
-    ensures step { λ r. ⌜ ((os : List Open) → here ≡ nestingOf os → stepResult r ≡ stepOf (checkRecord at os (rawRecordOf item))) ⌝ }
-    ensures laid { λ _. ⌜ ((os : List Open) (a : Accepted) → here ≡ nestingOf os → checkRecord at os (rawRecordOf item) ≡ ok a → RecordLaid item at (a .accepted) (now (sheet .entry)) (now (sheet .exit))) ⌝ }
+fn lay_record(item: Record, at: usize, here: Nesting, sheet: &mut [u8]) -> RecordAnswer
+    requires { ⌜ at + recordLengthLimit ≤ length (now sheet) ⌝ }
+    ensures answer { λ r. ⌜ ((os : List Open) → here ≡ nestingOf os → acceptedResult r ≡ acceptedOf (checkRecord at os (rawRecordOf item))) ⌝ }
+    ensures laid { λ _. ⌜ ((os : List Open) (a : Accepted) → here ≡ nestingOf os → checkRecord at os (rawRecordOf item) ≡ ok a →
+        RecordLaid item at (a .accepted) (now (sheet .entry)) (now (sheet .exit))) ⌝ }
 {
     let kind = item.kind;
     if kind < WORK || NEXT_ARM < kind {
-        return Step::Refused(Refusal {
+        return RecordAnswer::Refused(Refusal {
             number: 2,
             offset: at,
         });
     }
     if !foreign_blank(item) {
-        return Step::Refused(Refusal {
+        return RecordAnswer::Refused(Refusal {
             number: 3,
             offset: at,
         });
     }
-    let body = body_of(item);
-    let length = body_length(kind);
-    let part = &body[0..length];
-    let step = accept_record(at, here, kind, part);
-    sheet[at] = kind;
-    copy(part, sheet, at + 1);
-    step
+    let from = put_byte(sheet, at, kind);
+    let to = put_body(sheet, from, item);
+    accept_record(at, here, kind, &sheet[from..to])
 }
 
 // The length of the sheet of the first `count` records, or the first refusal among them, or that of what is open at the end.
-fn lay_out(records: [Record; 64], count: usize, sheet: &mut [u8]) -> WriteAnswer
-    requires { ⌜ (count ≤ 64) × (length (now sheet) ≡ 1600) ⌝ }
+fn lay_out(records: Records, count: usize, sheet: &mut [u8]) -> WriteAnswer
+    requires { ⌜ (count ≤ recordLimit) × (length (now sheet) ≡ sheetLengthLimit) ⌝ }
     ensures answer { λ r. ⌜ writeResult r ≡ measured (checkFrom 0 [] (take count (map rawRecordOf records))) ⌝ }
-    ensures laid { λ _. ⌜ ((rs : List M.Record) → checkFrom 0 [] (take count (map rawRecordOf records)) ≡ ok rs → SheetLaid records count rs (now (sheet .exit))) ⌝ }
+    ensures laid { λ _. ⌜ ((rs : List M.Record) → checkFrom 0 [] (take count (map rawRecordOf records)) ≡ ok rs →
+        SheetLaid records count rs (now (sheet .exit))) ⌝ }
 {
     let mut at: usize = 0;
-    let mut k: usize = 0;
+    let mut number: usize = 0;
     let mut here = Nesting::nothing();
-    while k < count {
-        let item = records[k];
-        let step = lay_record(item, at, here, sheet);
-        match step {
-            Step::Accepted(passed) => {
-                let after = passed.after;
+    while number < count {
+        let item = records[number];
+        let answer = lay_record(item, at, here, sheet);
+        match answer {
+            RecordAnswer::Accepted(record) => {
+                let after = record.after;
                 here = after;
-                at += passed.length;
-                k += 1;
+                at += record.length;
+                number += 1;
             }
-            Step::Refused(r) => {
+            RecordAnswer::Refused(r) => {
                 return WriteAnswer::Refused(r);
             }
         }
@@ -136,10 +144,12 @@ fn lay_out(records: [Record; 64], count: usize, sheet: &mut [u8]) -> WriteAnswer
 }
 
 // Writes the sheet of the first `count` records. The buffer changes only where no refusal falls: the sheet is laid out apart from it first.
-pub fn write_sheet(records: [Record; 64], count: usize, buffer: &mut [u8]) -> WriteAnswer
+pub fn write_sheet(records: Records, count: usize, buffer: &mut [u8]) -> WriteAnswer
     ensures answer { λ r. ⌜ writeResult r ≡ write (map rawRecordOf records) count (now (buffer .entry)) .result ⌝ }
     ensures bytes { λ _. ⌜ now (buffer .exit) ≡ write (map rawRecordOf records) count (now (buffer .entry)) .buffer ⌝ }
-    ensures undone { λ r. ⌜ ((n : ℕ) → writeResult r ≡ ok n → (counted (read (take n (now (buffer .exit)))) ≡ ok count) × (listed (read (take n (now (buffer .exit)))) ≡ take count records ++ replicate (64 - count) (blankRecord 0))) ⌝ }
+    ensures undone { λ r. ⌜ ((n : ℕ) → writeResult r ≡ ok n →
+        (counted (read (take n (now (buffer .exit)))) ≡ ok count)
+        × (withBlanks (read (take n (now (buffer .exit)))) ≡ take count records ++ replicate (recordLimit - count) (blankRecord 0))) ⌝ }
 {
     if MAX_RECORDS < count {
         return WriteAnswer::Refused(Refusal {
@@ -147,8 +157,7 @@ pub fn write_sheet(records: [Record; 64], count: usize, buffer: &mut [u8]) -> Wr
             offset: 0,
         });
     }
-    // 64 records of at most 25 bytes
-    let mut sheet: [u8; 1600] = [0; 1600];
+    let mut sheet: [u8; MAX_SHEET_LENGTH] = [0; MAX_SHEET_LENGTH];
     let answer = lay_out(records, count, &mut sheet);
     let WriteAnswer::Length(length) = answer else {
         return answer;
@@ -159,6 +168,5 @@ pub fn write_sheet(records: [Record; 64], count: usize, buffer: &mut [u8]) -> Wr
             offset: 0,
         });
     }
-    copy(&sheet[0..length], buffer, 0);
-    WriteAnswer::Length(length)
+    WriteAnswer::Length(put(buffer, 0, &sheet[0..length]))
 }

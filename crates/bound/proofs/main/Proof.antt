@@ -6,6 +6,9 @@ use borrow.Author.Needs.{needs}
 use Rattle.bound.proofs.main.Statement.{statement}
 use Rattle.bound.proofs.main.Tie as tie
 
+blank-input-requires : tie.Need-blank-input-requires
+blank-input-requires c κs = search needs
+
 slice-aggregate-read-full : tie.Need-slice-aggregate-read-full
 slice-aggregate-read-full c = search needs
 
@@ -37,6 +40,7 @@ pub main-spec : {M : Type 1} → statement M
 main-spec =
     tie.close
     (tie.spec
+    blank-input-requires
     slice-aggregate-read-full
     read-full-requires
     array-share-prefix-input

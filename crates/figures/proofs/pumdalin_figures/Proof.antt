@@ -3,7 +3,7 @@ use mathlib.Core.Path.{sym, ap, _∙_}
 use mathlib.Core.List.{[], _∷_}
 use mir.Facts.{toZ-ofZ}
 use Rattle.figures.specs.Answers.{figuresOf, answerResult}
-use Rattle.stage.proofs.Parameters.{small16}
+use Rattle.planner.proofs.Parameters.{small-16}
 use Rattle.figures.proofs.Calls.{promised-short, promised-refused, promised-figures}
 use borrow.Author.Needs.{needs}
 use Rattle.figures.proofs.pumdalin_figures.Statement.{statement}
@@ -13,7 +13,7 @@ returns : tie.Need-returns
 returns c =
     let start = c .before .before .before in
     let a = start .args in
-    let small = small16 (a .p1) (a .p2) (a .p3) (a .p4) (start .fits .p1) (start .fits .p2) (start .fits .p3) (start .fits .p4) in
+    let small = small-16 (a .p1) (a .p2) (a .p3) (a .p4) (start .fits .p1) (start .fits .p2) (start .fits .p3) (start .fits .p4) in
     promised-short (a .sheet .now) (a .p1 ∷ a .p2 ∷ a .p3 ∷ a .p4 ∷ []) (a .budget) (a .answer .now) small (c .if1 .taken)
 
 cycles-requires : tie.Need-cycles-requires
@@ -39,7 +39,7 @@ returns-2 c =
     let l = rw (toZ-ofZ (f .p1), toZ-ofZ (f .p2), toZ-ofZ (f .p3), toZ-ofZ (f .p4)) at (c .before .before .before .before .before .before .before .cycles .ensures .0) in
     let g = c .before .before .before .before .before .a .given in
     promised-figures (a .sheet .now) (a .p1 ∷ a .p2 ∷ a .p3 ∷ a .p4 ∷ []) (a .budget) (a .answer .now)
-    (small16 (a .p1) (a .p2) (a .p3) (a .p4) (f .p1) (f .p2) (f .p3) (f .p4)) (figuresOf (g .0 .0)) (c .before .before .put-figures .last .0)
+    (small-16 (a .p1) (a .p2) (a .p3) (a .p4) (f .p1) (f .p2) (f .p3) (f .p4)) (figuresOf (g .0 .0)) (c .before .before .put-figures .last .0)
     (c .before .before .before .before .before .before .before .before .if1 .left) (sym (ap answerResult (g .1)) ∙ l) (c .before .before .put-figures .ensures)
 
 returns-3 : tie.Need-returns-3
@@ -50,7 +50,7 @@ returns-3 c =
     let l = rw (toZ-ofZ (f .p1), toZ-ofZ (f .p2), toZ-ofZ (f .p3), toZ-ofZ (f .p4)) at (c .before .before .before .cycles .ensures .0) in
     let g = c .before .a2 .given in
     promised-refused (a .sheet .now) (a .p1 ∷ a .p2 ∷ a .p3 ∷ a .p4 ∷ []) (a .budget) (a .answer .now)
-    (small16 (a .p1) (a .p2) (a .p3) (a .p4) (f .p1) (f .p2) (f .p3) (f .p4)) (g .0 .0 .number) (g .0 .0 .offset)
+    (small-16 (a .p1) (a .p2) (a .p3) (a .p4) (f .p1) (f .p2) (f .p3) (f .p4)) (g .0 .0 .number) (g .0 .0 .offset)
     (c .before .before .before .before .if1 .left) (sym (ap answerResult (g .1)) ∙ l)
 
 pub pumdalin-figures-spec : {M : Type 1} → statement M

@@ -1,3 +1,4 @@
+-- The difference of two numbers of 8 bits fits 16.
 use Rattle.form.proofs.Reckoned.{widened-8, difference-8}
 use Rattle.form.proofs.difference.Statement.{statement}
 use Rattle.form.proofs.difference.Tie as tie

@@ -1,3 +1,4 @@
+-- A negative factor takes the upper end, any other the lower one.
 use mathlib.Core.Path.{sym, ap, _∙_}
 use mathlib.Core.Bool.{Bool, cond}
 use mir.Facts.{toZ-ofZ}

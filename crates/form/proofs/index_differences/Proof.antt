@@ -1,9 +1,12 @@
-use mathlib.Core.Path.{_≡_, _∙_}
+-- The three differences are those of the lists, one by one.
+use mathlib.Core.Path.{_≡_, ap₂, _∙_}
 use mathlib.Core.List.{[], _∷_}
 use lib.ListN.{length}
 use borrow.Author.Needs.{needs}
+use Rattle.whole.specs.Integer.{subtractLists}
+use Rattle.meaning.specs.Limits.{indexFactors}
 use Rattle.form.proofs.Reckoned.{difference-read}
-use Rattle.form.proofs.FormLists.{at, subtract-three}
+use Rattle.form.proofs.FormLists.{at, indexes-are}
 use Rattle.form.proofs.index_differences.Statement.{statement}
 use Rattle.form.proofs.index_differences.Tie as tie
 
@@ -39,12 +42,20 @@ returns c =
     let second = c .before .before .before in
     let first = second .before .before .before in
     let start = first .before .before .before in
-    let lx : length (start .args .t1) ≡ 3 = search needs in
-    let ly : length (start .args .t2) ≡ 3 = search needs in
-    let e1 = difference-read (at (start .args .t1) 0) (at (start .args .t2) 0) (record { sfits = first .before .before .difference-arg .given }) (record { sfits = first .before .difference-arg2 .given }) (record { sfits = first .difference .ok }) (first .difference .ensures) in
-    let e2 = difference-read (at (start .args .t1) 1) (at (start .args .t2) 1) (record { sfits = second .before .before .difference-arg3 .given }) (record { sfits = second .before .difference-arg4 .given }) (record { sfits = second .difference2 .ok }) (second .difference2 .ensures) in
-    let e3 = difference-read (at (start .args .t1) 2) (at (start .args .t2) 2) (record { sfits = c .before .before .difference-arg5 .given }) (record { sfits = c .before .difference-arg6 .given }) (record { sfits = c .difference3 .ok }) (c .difference3 .ensures) in
-    (λ i. e1 i ∷ e2 i ∷ e3 i ∷ []) ∙ subtract-three (start .args .t1) (start .args .t2) lx ly
+    let xs = start .args .t1 in
+    let ys = start .args .t2 in
+    let lx : length xs ≡ indexFactors = search needs in
+    let ly : length ys ≡ indexFactors = search needs in
+    let e1 =
+    difference-read (at xs 0) (at ys 0) (first .before .before .difference-arg .given) (first .before .difference-arg2 .given)
+    (first .difference .ok) (first .difference .ensures) in
+    let e2 =
+    difference-read (at xs 1) (at ys 1) (second .before .before .difference-arg3 .given) (second .before .difference-arg4 .given)
+    (second .difference2 .ok) (second .difference2 .ensures) in
+    let e3 =
+    difference-read (at xs 2) (at ys 2) (c .before .before .difference-arg5 .given) (c .before .difference-arg6 .given)
+    (c .difference3 .ok) (c .difference3 .ensures) in
+    (λ i. e1 i ∷ e2 i ∷ e3 i ∷ []) ∙ ap₂ subtractLists (indexes-are xs lx) (indexes-are ys ly)
 
 pub index-differences-spec : {M : Type 1} → statement M
 index-differences-spec =

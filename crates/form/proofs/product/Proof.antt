@@ -1,3 +1,4 @@
+-- A factor of 16 bits times a number within 2^46 is within 2^61, and exact.
 use borrow.Author.Needs.{needs}
 use native.Mathlib.Omega.{arith}
 use Rattle.form.proofs.Reckoned.{widened, limited, multiply, result}

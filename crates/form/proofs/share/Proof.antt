@@ -1,3 +1,4 @@
+-- The product of two numbers of 16 bits is within 2^30, and exact.
 use native.Mathlib.Omega.{arith}
 use Rattle.form.proofs.Reckoned.{widened, multiply, result}
 use Rattle.form.proofs.share.Statement.{statement}

@@ -1,8 +1,13 @@
+-- Each share is within 2^30, so that the sum of four is within 2^32.
 use mathlib.Core.Path.{_≡_, _∙_}
+use mathlib.Core.List.{List}
+use Prim.Native.Nat.{_^_}
 use native.Mathlib.Omega.{arith}
+use lib.IntN.{ℤ, _*ℤ_}
 use lib.ListN.{length}
 use borrow.Author.Needs.{needs}
-use Rattle.form.proofs.Reckoned.{share-read, add, result}
+use Rattle.meaning.specs.Limits.{parameterFactors}
+use Rattle.form.proofs.Reckoned.{Reckoned, share-read, add, result}
 use Rattle.form.proofs.FormLists.{at, dot-four}
 use Rattle.form.proofs.shares.Statement.{statement}
 use Rattle.form.proofs.shares.Tie as tie
@@ -43,53 +48,50 @@ array-copy-out-share-8 c = search needs
 share-requires-4 : tie.Need-share-requires-4
 share-requires-4 c κs = search needs
 
+-- the products of each factor and its parameter
+module _ (c : tie.After-share4) where
+  abbrev third : tie.After-share3
+  third = c .before .before .before
+
+  abbrev second : tie.After-share2
+  second = third .before .before .before
+
+  abbrev first : tie.After-share
+  first = second .before .before .before
+
+  abbrev xs : List ℤ
+  xs = first .before .before .before .args .t1
+
+  abbrev ys : List ℤ
+  ys = first .before .before .before .args .t2
+
+  fourth-is : Reckoned (c .share4 .result) (at xs 3 *ℤ at ys 3) (2 ^ 30)
+  fourth-is = share-read (at xs 3) (at ys 3) (c .before .before .share-arg7 .given) (c .before .share-arg8 .given) (c .share4 .ensures)
+
+  third-is : Reckoned (third .share3 .result) (at xs 2 *ℤ at ys 2) (2 ^ 30)
+  third-is = share-read (at xs 2) (at ys 2) (third .before .before .share-arg5 .given) (third .before .share-arg6 .given) (third .share3 .ensures)
+
+  second-is : Reckoned (second .share2 .result) (at xs 1 *ℤ at ys 1) (2 ^ 30)
+  second-is = share-read (at xs 1) (at ys 1) (second .before .before .share-arg3 .given) (second .before .share-arg4 .given) (second .share2 .ensures)
+
+  first-is : Reckoned (first .share .result) (at xs 0 *ℤ at ys 0) (2 ^ 30)
+  first-is = share-read (at xs 0) (at ys 0) (first .before .before .share-arg .given) (first .before .share-arg2 .given) (first .share .ensures)
+
 add-result : tie.Need-add-result
-add-result c =
-    let third = c .before .before .before in
-    let second = third .before .before .before in
-    let first = second .before .before .before in
-    let start = first .before .before .before in
-    let p3 = share-read (at (start .args .t1) 2) (at (start .args .t2) 2) (record { sfits = third .before .before .share-arg5 .given }) (record { sfits = third .before .share-arg6 .given }) (third .share3 .ensures) in
-    let p4 = share-read (at (start .args .t1) 3) (at (start .args .t2) 3) (record { sfits = c .before .before .share-arg7 .given }) (record { sfits = c .before .share-arg8 .given }) (c .share4 .ensures) in
-    add p3 p4 (omega arith) .fits
+add-result c = add (third-is c) (fourth-is c) (omega arith) .fits
 
 add-result-2 : tie.Need-add-result-2
-add-result-2 c =
-    let third = c .before .before .before in
-    let second = third .before .before .before in
-    let first = second .before .before .before in
-    let start = first .before .before .before in
-    let p2 = share-read (at (start .args .t1) 1) (at (start .args .t2) 1) (record { sfits = second .before .before .share-arg3 .given }) (record { sfits = second .before .share-arg4 .given }) (second .share2 .ensures) in
-    let p3 = share-read (at (start .args .t1) 2) (at (start .args .t2) 2) (record { sfits = third .before .before .share-arg5 .given }) (record { sfits = third .before .share-arg6 .given }) (third .share3 .ensures) in
-    let p4 = share-read (at (start .args .t1) 3) (at (start .args .t2) 3) (record { sfits = c .before .before .share-arg7 .given }) (record { sfits = c .before .share-arg8 .given }) (c .share4 .ensures) in
-    add p2 (add p3 p4 (omega arith)) (omega arith) .fits
+add-result-2 c = add (second-is c) (add (third-is c) (fourth-is c) (omega arith)) (omega arith) .fits
 
 add-result-3 : tie.Need-add-result-3
-add-result-3 c =
-    let third = c .before .before .before in
-    let second = third .before .before .before in
-    let first = second .before .before .before in
-    let start = first .before .before .before in
-    let p1 = share-read (at (start .args .t1) 0) (at (start .args .t2) 0) (record { sfits = first .before .before .share-arg .given }) (record { sfits = first .before .share-arg2 .given }) (first .share .ensures) in
-    let p2 = share-read (at (start .args .t1) 1) (at (start .args .t2) 1) (record { sfits = second .before .before .share-arg3 .given }) (record { sfits = second .before .share-arg4 .given }) (second .share2 .ensures) in
-    let p3 = share-read (at (start .args .t1) 2) (at (start .args .t2) 2) (record { sfits = third .before .before .share-arg5 .given }) (record { sfits = third .before .share-arg6 .given }) (third .share3 .ensures) in
-    let p4 = share-read (at (start .args .t1) 3) (at (start .args .t2) 3) (record { sfits = c .before .before .share-arg7 .given }) (record { sfits = c .before .share-arg8 .given }) (c .share4 .ensures) in
-    add p1 (add p2 (add p3 p4 (omega arith)) (omega arith)) (omega arith) .fits
+add-result-3 c = add (first-is c) (add (second-is c) (add (third-is c) (fourth-is c) (omega arith)) (omega arith)) (omega arith) .fits
 
 returns : tie.Need-returns
 returns c =
-    let third = c .before .before .before in
-    let second = third .before .before .before in
-    let first = second .before .before .before in
-    let start = first .before .before .before in
-    let p1 = share-read (at (start .args .t1) 0) (at (start .args .t2) 0) (record { sfits = first .before .before .share-arg .given }) (record { sfits = first .before .share-arg2 .given }) (first .share .ensures) in
-    let p2 = share-read (at (start .args .t1) 1) (at (start .args .t2) 1) (record { sfits = second .before .before .share-arg3 .given }) (record { sfits = second .before .share-arg4 .given }) (second .share2 .ensures) in
-    let p3 = share-read (at (start .args .t1) 2) (at (start .args .t2) 2) (record { sfits = third .before .before .share-arg5 .given }) (record { sfits = third .before .share-arg6 .given }) (third .share3 .ensures) in
-    let p4 = share-read (at (start .args .t1) 3) (at (start .args .t2) 3) (record { sfits = c .before .before .share-arg7 .given }) (record { sfits = c .before .share-arg8 .given }) (c .share4 .ensures) in
-    let lx : length (start .args .t1) ≡ 4 = search needs in
-    let ly : length (start .args .t2) ≡ 4 = search needs in
-    let s = result (add p1 (add p2 (add p3 p4 (omega arith)) (omega arith)) (omega arith)) in
-    (s .0 ∙ dot-four (start .args .t1) (start .args .t2) lx ly, s .1)
+    let lx : length (xs c) ≡ parameterFactors = search needs in
+    let ly : length (ys c) ≡ parameterFactors = search needs in
+    let s = result (add (first-is c) (add (second-is c) (add (third-is c) (fourth-is c) (omega arith)) (omega arith)) (omega arith)) in
+    (s .0 ∙ dot-four (xs c) (ys c) lx ly, s .1)
 
 pub shares-spec : {M : Type 1} → statement M
 shares-spec =

@@ -1,9 +1,11 @@
+-- Each end is the one at which the product is smallest, so that the sum of the products is the smallest.
 use mathlib.Core.Path.{_≡_, _∙_}
 use mathlib.Core.List.{[], _∷_}
 use native.Mathlib.Omega.{arith}
 use lib.ListN.{length}
 use borrow.Author.Needs.{needs}
 use Rattle.whole.specs.Integer.{dot}
+use Rattle.meaning.specs.Limits.{depthLimit, indexFactors}
 use Rattle.form.specs.Forms.{bounded}
 use Rattle.form.proofs.Reckoned.{end-read, known, result}
 use Rattle.form.proofs.FormLists.{at, smallest-dot}
@@ -58,14 +60,19 @@ returns c =
     let xs = start .args .t1 in
     let lo = start .args .t2 in
     let hi = start .args .t3 in
-    let lx : length xs ≡ 3 = search needs in
-    let ll : length lo ≡ 4 = search needs in
-    let lh : length hi ≡ 4 = search needs in
-    let e1 = end-read (at xs 0) (at lo 0) (at hi 0) (record { sfits = first .before .before .before .end-arg .given }) (record { sfits = first .before .before .end-arg2 .given }) (record { sfits = first .before .end-arg3 .given }) (record { sfits = first .end .ok }) (first .end .ensures) in
-    let e2 = end-read (at xs 1) (at lo 1) (at hi 1) (record { sfits = second .before .before .before .end-arg4 .given }) (record { sfits = second .before .before .end-arg5 .given }) (record { sfits = second .before .end-arg6 .given }) (record { sfits = second .end2 .ok }) (second .end2 .ensures) in
-    let e3 = end-read (at xs 2) (at lo 2) (at hi 2) (record { sfits = third .before .before .before .end-arg7 .given }) (record { sfits = third .before .before .end-arg8 .given }) (record { sfits = third .before .end-arg9 .given }) (record { sfits = third .end3 .ok }) (third .end3 .ensures) in
-    let d = known (c .dot .ensures .0) (c .dot .ensures .1) (omega arith) in
-    let s = result d in
+    let lx : length xs ≡ indexFactors = search needs in
+    let ll : length lo ≡ depthLimit = search needs in
+    let lh : length hi ≡ depthLimit = search needs in
+    let e1 =
+    end-read (at xs 0) (at lo 0) (at hi 0) (first .before .before .before .end-arg .given) (first .before .before .end-arg2 .given)
+    (first .before .end-arg3 .given) (first .end .ok) (first .end .ensures) in
+    let e2 =
+    end-read (at xs 1) (at lo 1) (at hi 1) (second .before .before .before .end-arg4 .given) (second .before .before .end-arg5 .given)
+    (second .before .end-arg6 .given) (second .end2 .ok) (second .end2 .ensures) in
+    let e3 =
+    end-read (at xs 2) (at lo 2) (at hi 2) (third .before .before .before .end-arg7 .given) (third .before .before .end-arg8 .given)
+    (third .before .end-arg9 .given) (third .end3 .ok) (third .end3 .ensures) in
+    let s = result (known (c .dot .ensures .0) (c .dot .ensures .1) (omega arith)) in
     (s .0 ∙ (λ i. dot xs (bounded (e1 i) ∷ bounded (e2 i) ∷ bounded (e3 i) ∷ [])) ∙ smallest-dot xs lo hi lx ll lh, s .1)
 
 pub smallest-spec : {M : Type 1} → statement M

@@ -1,3 +1,4 @@
+-- The test of the order is that of the definition.
 use borrow.Author.Tests.{le-leb, lt-leb}
 use Rattle.newton.proofs.if_known.Statement.{statement}
 use Rattle.newton.proofs.if_known.Tie as tie

@@ -1,3 +1,4 @@
+-- C(n, 2) from C(n, 1): the product with n - 1 fits, as n is at most the largest ceiling, and half of it is exact.
 use mathlib.Core.Path.{sym, _∙_}
 use borrow.Author.Needs.{needs}
 use native.Mathlib.Omega.{arith}
@@ -14,11 +15,11 @@ less-requires c κs = search needs
 
 mul-result : tie.Need-mul-result
 mul-result c = let e = c .before .within .ensures in
-    record { fits = next-size _ 1 _ _ _ e (e ∙ sym (choose-one _)) (c .less .ensures) (omega arith) (omega arith) }
+    record { fits = next-size 1 e (e ∙ sym (choose-one _)) (c .less .ensures) (omega arith) (omega arith) }
 
 returns : tie.Need-returns
 returns c = let e = c .before .within .ensures in
-    next-is _ 1 _ _ _ e (e ∙ sym (choose-one _)) (c .less .ensures)
+    next-is 1 e (e ∙ sym (choose-one _)) (c .less .ensures)
 
 pub pairs-spec : {M : Type 1} → statement M
 pairs-spec = tie.close (tie.spec within-requires less-requires mul-result returns)

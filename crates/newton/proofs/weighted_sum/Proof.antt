@@ -1,3 +1,4 @@
+-- Each difference, product and sum wraps, so that what is left is the remainder of the exact sum by 2^64.
 use borrow.Author.Needs.{needs}
 use Rattle.newton.proofs.Sum.{wrapped-sum}
 use Rattle.newton.proofs.weighted_sum.Statement.{statement}
@@ -68,7 +69,7 @@ returns c =
     let c3 = c4 .before in
     let c2 = c3 .before in
     let c1 = c2 .before in
-    wrapped-sum (c1 .before .args .w) (c1 .before .args .t2) _ _ _ _ _ _ _ _ _ _ _ _ _
+    wrapped-sum (c1 .before .args .w) (c1 .before .args .t2) _ _ _
     (c1 .wrapping-sub-u64 .ensures)
     (c2 .wrapping-sub-u642 .ensures)
     (c3 .wrapping-sub-u643 .ensures)

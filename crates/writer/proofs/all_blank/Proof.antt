@@ -22,7 +22,9 @@ shared-slice-read-if1 : tie.Need-shared-slice-read-if1 Inv-loop μ-loop
 shared-slice-read-if1 c = search needs
 
 returns : tie.Need-returns Inv-loop μ-loop
-returns c = blank-stops (c .before .before .before .before .args .bytes .now) (c .before .before .before .loop .i) (c .before .before .before .loop .inv .1) (omega arith) (c .if1 .taken)
+returns c =
+    let turn = c .before .before .before in
+    blank-stops (turn .before .args .bytes .now) (turn .loop .i) (turn .loop .inv .1) (omega arith) (c .if1 .taken)
 
 add-i : tie.Need-add-i Inv-loop μ-loop
 add-i c = search needs
@@ -31,7 +33,9 @@ loop-less : tie.Need-loop-less Inv-loop μ-loop
 loop-less c = search needs
 
 loop-again : tie.Need-loop-again Inv-loop μ-loop
-loop-again c = (omega arith, blank-next (c .before .before .before .before .args .bytes .now) (c .before .before .before .loop .i) (c .before .before .before .loop .inv .1) (omega arith) (c .if1 .left))
+loop-again c =
+    let turn = c .before .before .before in
+    (omega arith, blank-next (turn .before .args .bytes .now) (turn .loop .i) (turn .loop .inv .1) (omega arith) (c .if1 .left))
 
 returns-2 : tie.Need-returns-2 Inv-loop μ-loop
 returns-2 c = blank-end (c .before .before .args .bytes .now) (c .before .loop .i) (c .before .loop .inv .1) (omega arith)

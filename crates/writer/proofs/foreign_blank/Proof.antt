@@ -1,8 +1,11 @@
-use mathlib.Core.Path.{sym, _∙_}
-use Rattle.meaning.specs.Writer.{workFieldsZero}
-use Rattle.sheet.specs.View.{rawRecordOf}
-use Rattle.sheet.proofs.Ranges.{and-pass, and-stop}
-use Rattle.writer.proofs.Blanks.{foreign-work, foreign-loop, foreign-both}
+-- By the kind: a work has no fields of a loop, a loop none of a work, and any other kind none of either.
+use mathlib.Core.Path.{_≡_, refl, sym, ap, _∙_}
+use mathlib.Core.Bool.{_&&_}
+use Rattle.meaning.specs.Record.{Kind, workKind, loopKind, kindNumber}
+use Rattle.meaning.specs.Writer.{workFieldsZero, loopFieldsZero, foreignFieldsZero}
+use Rattle.records.specs.View.{rawRecordOf}
+use Rattle.records.proofs.Tests.{and-pass, and-stop}
+use Rattle.records.proofs.ByKind.{kind-is, kind-without-fields}
 use borrow.Author.Needs.{needs}
 use Rattle.writer.proofs.foreign_blank.Statement.{statement}
 use Rattle.writer.proofs.foreign_blank.Tie as tie
@@ -11,13 +14,19 @@ loop-blank-requires : tie.Need-loop-blank-requires
 loop-blank-requires c κs = search needs
 
 returns : tie.Need-returns
-returns c k named = foreign-work (c .before .before .before .args .item) k named (c .before .if1 .taken) _ (c .loop-blank .ensures)
+unfolding kindNumber foreignFieldsZero
+returns c k named =
+    let raw = rawRecordOf (c .before .before .before .before .before .args .item) in
+    c .loop-blank .ensures ∙ ap (λ (j : Kind). foreignFieldsZero j raw) (kind-is workKind (c .before .if1 .taken) named)
 
 work-blank-requires : tie.Need-work-blank-requires
 work-blank-requires c κs = search needs
 
 returns-2 : tie.Need-returns-2
-returns-2 c k named = foreign-loop (c .before .before .before .before .before .args .item) k named (c .before .if2 .taken) _ (c .work-blank .ensures)
+unfolding kindNumber foreignFieldsZero workFieldsZero
+returns-2 c k named =
+    let raw = rawRecordOf (c .before .before .before .before .before .before .before .args .item) in
+    c .work-blank .ensures ∙ ap (λ (j : Kind). foreignFieldsZero j raw) (kind-is loopKind (c .before .if2 .taken) named)
 
 work-blank-requires-2 : tie.Need-work-blank-requires-2
 work-blank-requires-2 c κs = search needs
@@ -26,10 +35,22 @@ loop-blank-requires-2 : tie.Need-loop-blank-requires-2
 loop-blank-requires-2 c κs = search needs
 
 returns-3 : tie.Need-returns-3
-returns-3 c k named = c .loop-blank2 .ensures ∙ and-pass (workFieldsZero (rawRecordOf (c .before .before .before .before .before .before .before .args .item))) _ (sym (c .before .before .work-blank2 .ensures) ∙ c .before .if3 .taken) (foreign-both (c .before .before .before .before .before .before .before .args .item) k named (c .before .before .before .before .before .if1 .left) (c .before .before .before .if2 .left))
+unfolding foreignFieldsZero workFieldsZero
+returns-3 c k named =
+    let raw = rawRecordOf (c .before .before .before .before .before .before .before .before .before .args .item) in
+    let both = kind-without-fields (λ (j : Kind). workFieldsZero raw && loopFieldsZero (raw .loopFields) ≡ foreignFieldsZero j raw) refl refl refl
+    (c .before .before .before .before .before .if1 .left) (c .before .before .before .if2 .left) k named in
+    c .loop-blank2 .ensures
+    ∙ and-pass (workFieldsZero raw) (loopFieldsZero (raw .loopFields)) (sym (c .before .before .work-blank2 .ensures) ∙ c .before .if3 .taken) both
 
 returns-4 : tie.Need-returns-4
-returns-4 c k named = c .before .work-blank2 .ensures ∙ and-stop (workFieldsZero (rawRecordOf (c .before .before .before .before .before .before .args .item))) _ (sym (c .before .work-blank2 .ensures) ∙ c .if3 .left) (foreign-both (c .before .before .before .before .before .before .args .item) k named (c .before .before .before .before .if1 .left) (c .before .before .if2 .left))
+unfolding foreignFieldsZero workFieldsZero
+returns-4 c k named =
+    let raw = rawRecordOf (c .before .before .before .before .before .before .before .before .args .item) in
+    let both = kind-without-fields (λ (j : Kind). workFieldsZero raw && loopFieldsZero (raw .loopFields) ≡ foreignFieldsZero j raw) refl refl refl
+    (c .before .before .before .before .if1 .left) (c .before .before .if2 .left) k named in
+    c .before .work-blank2 .ensures
+    ∙ and-stop (workFieldsZero raw) (loopFieldsZero (raw .loopFields)) (sym (c .before .work-blank2 .ensures) ∙ c .if3 .left) both
 
 pub foreign-blank-spec : {M : Type 1} → statement M
 foreign-blank-spec =

@@ -1,18 +1,22 @@
+-- Refusal 2, refusal 3, or what accepting says of the bytes that are stored, which are those of the record.
 use mathlib.Core.Path.{_≡_, sym, ap, _∙_}
 use mathlib.Core.List.{List}
 use mathlib.Core.Logic.{⊎-elim}
-use Prim.Native.Nat.{_-_, _≤_}
+use mathlib.Core.Option.{some}
+use Prim.Native.Nat.{ℕ}
 use native.Mathlib.Omega.{arith}
 use borrow.Author.Tests.{ltb-true, ltb-false, not-true, not-false}
-use lib.ListN.{take, length-take, length-set}
-use Rattle.meaning.specs.Record.{Open}
+use lib.ListN.{length}
+use Rattle.meaning.specs.Record.{Kind, kindOf, bodyLength, Open}
 use Rattle.meaning.specs.Reader.{refused}
 use Rattle.meaning.specs.Writer.{checkRecord}
-use Rattle.meaning.proofs.RecordBytes.{bodyLength-bound}
-use Rattle.sheet.specs.View.{rawRecordOf}
-use Rattle.sheet.specs.Answers.{stepOf}
+use Rattle.encoding.proofs.Appending.{keeps-length, between}
+use Rattle.records.specs.View.{rawRecordOf, lengthOfKind}
+use Rattle.sheet.specs.Answers.{acceptedOf}
 use Rattle.sheet.proofs.Heads.{some-kind}
-use Rattle.writer.proofs.LaidRecord.{part-is, check-no-kind, not-laid, check-foreign, body-is-long, check-accept, record-laid}
+use Rattle.writer.proofs.Fits.{record-fits}
+use Rattle.writer.proofs.Given.{body-long}
+use Rattle.writer.proofs.LaidRecord.{check-no-kind, not-laid, check-foreign, check-accept, record-laid}
 use borrow.Author.Needs.{needs}
 use Rattle.writer.proofs.lay_record.Statement.{statement}
 use Rattle.writer.proofs.lay_record.Tie as tie
@@ -20,65 +24,75 @@ use Rattle.writer.proofs.lay_record.Tie as tie
 returns : tie.Need-returns
 returns c =
     let a = c .before .before .args in
-    let refusal : (os : List Open) → refused 2 (a .at) ≡ stepOf (checkRecord (a .at) os (rawRecordOf (a .item))) = λ os. check-no-kind (a .at) os (a .item) (λ above below. ⊎-elim (λ w. omega arith) (λ w. omega (arith, ltb-true)) (c .if1 .came)) in
-    (λ os e. refusal os, λ os x e q. not-laid (a .at) os (a .item) (refusal os) x q)
+    let refusal : (os : List Open) → refused 2 (a .at) ≡ acceptedOf (checkRecord (a .at) os (rawRecordOf (a .item))) = λ os.
+    check-no-kind (a .at) os (a .item) (λ above below. ⊎-elim (λ w. omega arith) (λ w. omega (arith, ltb-true)) (c .if1 .came)) in
+    (λ os e. refusal os, λ os x e q. not-laid (a .at) os (a .item) (refusal os) q)
 
 foreign-blank-requires : tie.Need-foreign-blank-requires
 foreign-blank-requires c κs = search needs
 
+-- the kind that the record's number names
+module _ (c : tie.After-foreign-blank) where
+  abbrev number : ℕ
+  number = c .before .before .before .before .args .item .kind
+
+  named : (k : Kind) × (kindOf number ≡ some k) × (lengthOfKind number ≡ bodyLength k)
+  named = some-kind number (omega arith) (omega (arith, ltb-false))
+
 returns-2 : tie.Need-returns-2
 returns-2 c =
+    let n = named (c .before) in
+    let blank = c .before .foreign-blank in
     let a = c .before .before .before .before .before .args in
-    let n = some-kind (a .item .kind) (omega arith) (omega (arith, ltb-false)) in
-    let refusal : (os : List Open) → refused 3 (a .at) ≡ stepOf (checkRecord (a .at) os (rawRecordOf (a .item))) = λ os. check-foreign (a .at) os (a .item) (n .0) (n .1) (sym (not-true (c .before .foreign-blank .result) (c .if3 .taken)) ∙ c .before .foreign-blank .ensures (n .0) (n .1)) in
-    (λ os e. refusal os, λ os x e q. not-laid (a .at) os (a .item) (refusal os) x q)
+    let refusal : (os : List Open) → refused 3 (a .at) ≡ acceptedOf (checkRecord (a .at) os (rawRecordOf (a .item))) = λ os.
+    check-foreign (a .at) os (a .item) (n .1) (sym (not-true (blank .result) (c .if3 .taken)) ∙ blank .ensures (n .0) (n .1)) in
+    (λ os e. refusal os, λ os x e q. not-laid (a .at) os (a .item) (refusal os) q)
 
-body-of-requires : tie.Need-body-of-requires
-body-of-requires c κs = search needs
+put-byte-requires : tie.Need-put-byte-requires
+put-byte-requires c κs = search needs
 
-body-length-requires : tie.Need-body-length-requires
-body-length-requires c κs = search needs
+put-body-requires : tie.Need-put-body-requires
+put-body-requires c κs = search needs
 
-sub-part : tie.Need-sub-part
-sub-part c = search needs
+sub-accept-record : tie.Need-sub-accept-record
+sub-accept-record c =
+    let n = named (c .before .before .before .before .before .before .before .before .before) in
+    let body = c .before .before .put-body .ensures (n .0) (n .1) in
+    omega (arith, body .ends)
 
-part-part-start : tie.Need-part-part-start
-part-part-start c = search needs
+part-accept-record-start : tie.Need-part-accept-record-start
+part-accept-record-start c =
+    let n = named (c .before .before .before .before .before .before .before .before .before .before) in
+    let body = c .before .before .before .put-body .ensures (n .0) (n .1) in
+    omega (arith, body .ends)
 
-part-part-end : tie.Need-part-part-end
-part-part-end c =
-    let n = some-kind (c .before .before .before .before .before .before .before .before .args .item .kind) (omega arith) (omega (arith, ltb-false)) in
-    let l : c .before .body-length .result ≤ 24 = omega (arith, c .before .body-length .ensures, n .2, bodyLength-bound (n .0)) in
-    omega (arith, l)
+part-accept-record-end : tie.Need-part-accept-record-end
+part-accept-record-end c =
+    let n = named (c .before .before .before .before .before .before .before .before .before .before) in
+    let body = c .before .before .before .put-body .ensures (n .0) (n .1) in
+    omega (arith, body .ends, body .fits, keeps-length body)
 
 accept-record-requires : tie.Need-accept-record-requires
 accept-record-requires c κs = search needs
 
-slice-write-sheet : tie.Need-slice-write-sheet
-slice-write-sheet c = search needs
-
-add-copy : tie.Need-add-copy
-add-copy c = search needs
-
-copy-requires : tie.Need-copy-requires
-copy-requires c κs =
-    let a = c .before .before .before .before .before .before .before .before .before .before .before .args in
-    let n = some-kind (a .item .kind) (omega arith) (omega (arith, ltb-false)) in
-    omega (arith, length-take (c .before .before .before .before .body-length .result - 0) (c .before .before .before .before .before .body-of .result), c .before .before .before .before .body-length .ensures, n .2, bodyLength-bound (n .0), c .before .before .before .before .before .before .before .before .before .before .before .pre, length-set (a .sheet .now) (a .at) (a .item .kind))
-
 same-length : tie.Need-same-length
-same-length c = c .before .before .copy .kept .1 .0 ∙ length-set (c .before .before .before .before .before .before .before .before .before .before .before .before .before .before .args .sheet .now) (c .before .before .before .before .before .before .before .before .before .before .before .before .before .before .args .at) (c .before .before .before .before .before .before .before .before .before .before .before .before .before .before .args .item .kind)
+same-length c = search needs
 
 returns-3 : tie.Need-returns-3
 returns-3 c =
-    let a = c .before .before .before .before .before .before .before .before .before .before .before .before .before .before .args in
-    let n = some-kind (a .item .kind) (omega arith) (omega (arith, ltb-false)) in
-    let blank = sym (not-false (c .before .before .before .before .before .before .before .before .before .before .foreign-blank .result) (c .before .before .before .before .before .before .before .before .before .if3 .left)) ∙ c .before .before .before .before .before .before .before .before .before .before .foreign-blank .ensures (n .0) (n .1) in
-    let body = c .before .before .before .before .before .before .before .before .body-of in
-    let part = take (c .before .before .before .before .before .before .before .body-length .result - 0) (body .result) in
-    let is = part-is (a .item .kind) (c .before .before .before .before .before .before .before .body-length .result) (n .0) (body .result) _ (c .before .before .before .before .before .before .before .body-length .ensures) (n .2) (body .ensures .0 (n .0) (n .1)) in (
-      λ os e. c .before .before .before .before .accept-record .ensures .1 os (n .0) e (n .1) (body-is-long (a .at) os (a .item) (n .0) (n .1) blank (body .ensures .1) part is) ∙ ap stepOf (check-accept (a .at) os (a .item) (n .0) (n .1) blank (body .ensures .1) part is),
-      λ os x e q. record-laid (a .at) os (a .item) (n .0) (n .1) blank (body .ensures .1) part is (a .sheet .now) _ (c .before .before .before .before .before .before .before .before .before .before .before .before .before .before .pre) (c .before .before .copy .ensures) x q,
+    let body = c .before .before .before .before .before in
+    let kind = body .before .before .before .before in
+    let tested = kind .before .before .before in
+    let start = tested .before .before .before .before in
+    let a = start .args in
+    let n = named tested in
+    let blank = sym (not-false (tested .foreign-blank .result) (kind .before .before .if3 .left)) ∙ tested .foreign-blank .ensures (n .0) (n .1) in
+    let fits = record-fits (a .item) _ (start .good .0) in
+    let stored = body .put-body .ensures (n .0) (n .1) in
+    let part = between stored in (
+      λ os e. c .accept-record .ensures .1 os (n .0) e (n .1) (ap (λ (l : List ℕ). length l) part ∙ body-long fits (n .0))
+          ∙ ap acceptedOf (check-accept (a .at) os (a .item) (n .1) blank fits part),
+      λ os x e q. record-laid (a .at) os (a .item) (n .1) blank fits (kind .put-byte .ensures) stored q,
     )
 
 pub lay-record-spec : {M : Type 1} → statement M
@@ -88,14 +102,11 @@ lay-record-spec =
     returns
     foreign-blank-requires
     returns-2
-    body-of-requires
-    body-length-requires
-    sub-part
-    part-part-start
-    part-part-end
+    put-byte-requires
+    put-body-requires
+    sub-accept-record
+    part-accept-record-start
+    part-accept-record-end
     accept-record-requires
-    slice-write-sheet
-    add-copy
-    copy-requires
     same-length
     returns-3)

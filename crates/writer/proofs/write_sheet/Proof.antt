@@ -1,20 +1,23 @@
-use mathlib.Core.Path.{refl, sym, ap, _∙_}
+-- Refusal 4; the refusal of the records; refusal 9; or the bytes that were laid out, which the reader reads as the records given.
+use mathlib.Core.Path.{sym, ap, _∙_}
 use native.Mathlib.Omega.{arith}
-use borrow.Author.Needs.{needs}
 use Rattle.meaning.proofs.Logic.{refused-is-not-ok}
 use Rattle.writer.specs.Answers.{writeResult}
-use Rattle.writer.proofs.Writes.{too-many, not-laid-out, length-fits, part-long, too-short, written}
+use Rattle.writer.proofs.Writes.{too-many, not-laid-out, length-fits, too-short, written}
+use borrow.Author.Needs.{needs}
 use Rattle.writer.proofs.write_sheet.Statement.{statement}
 use Rattle.writer.proofs.write_sheet.Tie as tie
 
 returns : tie.Need-returns
-returns c = too-many (c .before .before .args .records) (c .before .before .args .count) (c .before .before .args .buffer .now) (c .if1 .taken)
+returns c =
+    let a = c .before .before .args in
+    too-many (a .records) (a .count) (a .buffer .now) (c .if1 .taken)
 
 slice-aggregate-lay-out : tie.Need-slice-aggregate-lay-out
 slice-aggregate-lay-out c = search needs
 
 lay-out-requires : tie.Need-lay-out-requires
-lay-out-requires c κs = (c .before .if1 .left, refl)
+lay-out-requires c κs = search needs
 
 enum-known-answer : tie.Need-enum-known-answer
 enum-known-answer c = search needs
@@ -24,34 +27,49 @@ enum-told c = search needs
 
 returns-2 : tie.Need-returns-2
 returns-2 c =
+    let laid = c .before .before .before in
+    let a = laid .before .before .before .before .args in
     let told = ap writeResult (c .enum-told .given .1) in
-    let p = not-laid-out (c .before .before .before .before .before .before .before .args .records) (c .before .before .before .before .before .before .before .args .count) (c .before .before .before .before .before .before .before .args .buffer .now) (c .before .before .before .before .before .if1 .left) _ _ (sym told ∙ c .before .before .before .lay-out .ensures .0) in
+    let p = not-laid-out (a .records) (a .count) (a .buffer .now) (laid .before .before .if1 .left) (sym told ∙ laid .lay-out .ensures .0) in
     (told ∙ p .0, (p .1 .0, λ n q. refused-is-not-ok (sym told ∙ q)))
 
 returns-3 : tie.Need-returns-3
-returns-3 c = too-short (c .before .before .before .before .before .before .before .before .before .args .records) (c .before .before .before .before .before .before .before .before .before .args .count) (c .before .before .before .before .before .before .before .before .before .args .buffer .now) (c .before .before .before .before .before .before .before .if1 .left) (search needs) (c .before .before .before .before .before .lay-out .last .1 .1 .0) (c .before .before .before .before .before .lay-out .kept .1 .1 .0) (c .before .before .before .before .before .lay-out .ensures .1) (c .before .before .answer .given .0 .0) (sym (ap writeResult (c .before .before .answer .given .1)) ∙ c .before .before .before .before .before .lay-out .ensures .0) (c .if2 .taken)
+returns-3 c =
+    let laid = c .before .before .before .before .before in
+    let a = laid .before .before .before .before .args in
+    let told = sym (ap writeResult (c .before .before .answer .given .1)) ∙ laid .lay-out .ensures .0 in
+    too-short (a .records) (a .count) (a .buffer .now) (laid .before .before .if1 .left) (search needs) (laid .lay-out .kept .1 .1 .0)
+    (laid .lay-out .ensures .1) told (c .if2 .taken)
 
-sub-copy : tie.Need-sub-copy
-sub-copy c = search needs
+sub-put : tie.Need-sub-put
+sub-put c = search needs
 
-part-copy-start : tie.Need-part-copy-start
-part-copy-start c = search needs
+part-put-start : tie.Need-part-put-start
+part-put-start c = search needs
 
-part-copy-end : tie.Need-part-copy-end
-part-copy-end c =
-    let fits = length-fits (c .before .before .before .before .before .before .before .before .before .before .args .records) (c .before .before .before .before .before .before .before .before .before .before .args .count) (c .before .before .before .before .before .before .before .before .before .before .args .buffer .now) (c .before .before .before .before .before .before .before .before .if1 .left) (search needs) (c .before .before .before .before .before .before .lay-out .last .1 .1 .0) (c .before .before .before .before .before .before .lay-out .kept .1 .1 .0) (c .before .before .before .before .before .before .lay-out .ensures .1) (c .before .before .before .answer .given .0 .0) (sym (ap writeResult (c .before .before .before .answer .given .1)) ∙ c .before .before .before .before .before .before .lay-out .ensures .0) in
-    omega (arith, fits, c .before .before .before .before .before .before .lay-out .kept .1 .1 .0)
+part-put-end : tie.Need-part-put-end
+part-put-end c =
+    let laid = c .before .before .before .before .before .before .before in
+    let a = laid .before .before .before .before .args in
+    let told = sym (ap writeResult (c .before .before .before .before .answer .given .1)) ∙ laid .lay-out .ensures .0 in
+    let long = laid .lay-out .kept .1 .1 .0 in
+    let fits = length-fits (a .records) (a .count) (a .buffer .now) (laid .before .before .if1 .left) (search needs) long (laid .lay-out .ensures .1) told in
+    omega (arith, long, fits)
 
-copy-requires : tie.Need-copy-requires
-copy-requires c κs =
-    let long = part-long (c .before .before .before .before .before .before .before .before .before .before .before .before .args .records) (c .before .before .before .before .before .before .before .before .before .before .before .before .args .count) (c .before .before .before .before .before .before .before .before .before .before .before .before .args .buffer .now) (c .before .before .before .before .before .before .before .before .before .before .if1 .left) (search needs) (c .before .before .before .before .before .before .before .before .lay-out .last .1 .1 .0) (c .before .before .before .before .before .before .before .before .lay-out .kept .1 .1 .0) (c .before .before .before .before .before .before .before .before .lay-out .ensures .1) (c .before .before .before .before .before .answer .given .0 .0) (sym (ap writeResult (c .before .before .before .before .before .answer .given .1)) ∙ c .before .before .before .before .before .before .before .before .lay-out .ensures .0) in
-    omega (arith, long, c .before .before .before .if2 .left)
+put-requires : tie.Need-put-requires
+put-requires c κs = search needs
 
 same-length : tie.Need-same-length
-same-length c = c .before .before .copy .kept .1 .0
+same-length c = search needs
 
 returns-4 : tie.Need-returns-4
-returns-4 c = written (c .before .before .before .before .before .before .before .before .before .before .before .before .before .before .before .args .records) (c .before .before .before .before .before .before .before .before .before .before .before .before .before .before .before .args .count) (c .before .before .before .before .before .before .before .before .before .before .before .before .before .before .before .args .buffer .now) (c .before .before .before .before .before .before .before .before .before .before .before .before .before .if1 .left) (search needs) (c .before .before .before .before .before .before .before .before .before .before .before .lay-out .last .1 .1 .0) (c .before .before .before .before .before .before .before .before .before .before .before .lay-out .kept .1 .1 .0) (c .before .before .before .before .before .before .before .before .before .before .before .lay-out .ensures .1) (c .before .before .before .before .before .before .before .before .answer .given .0 .0) (sym (ap writeResult (c .before .before .before .before .before .before .before .before .answer .given .1)) ∙ c .before .before .before .before .before .before .before .before .before .before .before .lay-out .ensures .0) (c .before .before .before .before .before .before .if2 .left) _ (c .before .before .copy .ensures)
+returns-4 c =
+    let laid = c .before .before .before .before .before .before .before .before .before .before .before in
+    let a = laid .before .before .before .before .args in
+    let told = sym (ap writeResult (c .before .before .before .before .before .before .before .before .answer .given .1)) ∙ laid .lay-out .ensures .0 in
+    written (a .records) (a .count) (a .buffer .now) (laid .before .before .if1 .left) (search needs) (laid .lay-out .kept .1 .1 .0)
+    (laid .lay-out .ensures .1) told
+    (c .before .before .before .before .before .before .if2 .left) (c .before .before .put .ensures)
 
 pub write-sheet-spec : {M : Type 1} → statement M
 write-sheet-spec =
@@ -64,9 +82,9 @@ write-sheet-spec =
     enum-told
     returns-2
     returns-3
-    sub-copy
-    part-copy-start
-    part-copy-end
-    copy-requires
+    sub-put
+    part-put-start
+    part-put-end
+    put-requires
     same-length
     returns-4)

@@ -1,33 +1,39 @@
--- Either test of the budget is the one of the definition.
+-- The code compares the visits with the budget as the definition does: refusal 8 where they are more, otherwise the sums' three numbers.
 use mathlib.Core.Path.{sym}
 use native.Mathlib.Omega.{arith}
-use Rattle.parts.specs.Sums.{leastOf, mostOf, visitsOf}
-use Rattle.figures.proofs.Planning.{check-within, check-spent, figuresAt}
+use Rattle.figures.specs.Repeat.{figuresAt}
+use Rattle.figures.proofs.Answering.{check-within, check-spent}
 use borrow.Author.Needs.{needs}
 use Rattle.figures.proofs.repeat.figures_of.Statement.{statement}
 use Rattle.figures.proofs.repeat.figures_of.Tie as tie
 
-array-read-if1 : tie.Need-array-read-if1
-array-read-if1 c = search needs
+element-copy-out-if1 : tie.Need-element-copy-out-if1
+element-copy-out-if1 c = search needs
 
 returns : tie.Need-returns
-unfolding visitsOf
-returns c = sym (check-spent (c .before .before .args .budget) (figuresAt (c .before .before .args .s)) (omega arith))
+returns c = sym (check-spent (c .before .before .args .budget) (figuresAt (c .before .before .args .sums .now)) (omega arith))
 
-array-read-t4 : tie.Need-array-read-t4
-array-read-t4 c = search needs
+element-copy-out-t3 : tie.Need-element-copy-out-t3
+element-copy-out-t3 c = search needs
 
-array-read-t7 : tie.Need-array-read-t7
-array-read-t7 c = search needs
+element-copy-out-t6 : tie.Need-element-copy-out-t6
+element-copy-out-t6 c = search needs
 
-array-read-t16 : tie.Need-array-read-t16
-array-read-t16 c = search needs
+element-copy-out-t15 : tie.Need-element-copy-out-t15
+element-copy-out-t15 c = search needs
 
 returns-2 : tie.Need-returns-2
-unfolding leastOf mostOf visitsOf
-returns-2 c = sym (check-within (c .before .before .args .budget) (figuresAt (c .before .before .args .s)) (omega arith))
+returns-2 c =
+    let a = c .before .before .before .before .before .args in
+    sym (check-within (a .budget) (figuresAt (a .sums .now)) (omega arith))
 
 pub figures-of-spec : {M : Type 1} → statement M
 figures-of-spec =
     tie.close
-    (tie.spec array-read-if1 returns array-read-t4 array-read-t7 array-read-t16 returns-2)
+    (tie.spec
+    element-copy-out-if1
+    returns
+    element-copy-out-t3
+    element-copy-out-t6
+    element-copy-out-t15
+    returns-2)

@@ -1,6 +1,8 @@
+-- A form less the blank one is the same form.
 use mathlib.Core.Path.{_≡_, ap, _∙_}
 use lib.ListN.{length}
 use borrow.Author.Needs.{needs}
+use Rattle.meaning.specs.Limits.{indexFactors, parameterFactors}
 use Rattle.meaning.specs.Form as M
 use Rattle.form.specs.Packed.{formOf}
 use Rattle.form.proofs.FormLists.{subtract-blank}
@@ -16,8 +18,8 @@ subtract-requires c κs = search needs
 returns : tie.Need-returns
 returns c =
     let f = c .before .before .args .f in
-    let hi : length (f .index) ≡ 3 = search needs in
-    let hp : length (f .parameter) ≡ 4 = search needs in
+    let hi : length (f .index) ≡ indexFactors = search needs in
+    let hp : length (f .parameter) ≡ parameterFactors = search needs in
     c .subtract .ensures ∙ ap (λ g. M.subtract (formOf f) (formOf g)) (c .before .blank .ensures) ∙ subtract-blank (formOf f) hi hp
 
 pub of-spec : {M : Type 1} → statement M

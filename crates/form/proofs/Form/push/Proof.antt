@@ -1,8 +1,10 @@
+-- Past the last row nothing is added; else the sum of the products with row `m`.
 use mathlib.Core.Path.{_≡_}
 use mathlib.Core.List.{[]}
 use native.Mathlib.Omega.{arith}
 use borrow.Author.Needs.{needs}
 use lib.ListN.{length, getD}
+use Rattle.meaning.specs.Limits.{indexFactors}
 use Rattle.meaning.specs.Closed.{push}
 use Rattle.form.specs.Forms.{wideForm, pushOf}
 use Rattle.form.proofs.FormLists.{dot-read, push-none}
@@ -37,8 +39,11 @@ unfolding pushOf push
 returns-2 c =
     let start = c .before .before .before .before .before .before .before in
     let ys = getD (start .args .t2) (start .args .m) [] in
-    let lx : length (start .args .self .index) ≡ 3 = search needs in
-    dot-read (start .args .self .index) ys lx (record { sfits = c .before .before .before .dot-arg .given }) (record { sfits = c .before .before .dot-arg2 .given }) (record { sfits = c .before .dot-arg3 .given }) (c .dot .ensures) .same
+    let lx : length (start .args .self .index) ≡ indexFactors = search needs in
+    let sum =
+    dot-read (start .args .self .index) ys lx (c .before .before .before .dot-arg .given) (c .before .before .dot-arg2 .given) (c .before .dot-arg3 .given)
+    (c .dot .ensures) in
+    sum .same
 
 pub push-spec : {M : Type 1} → statement M
 push-spec =

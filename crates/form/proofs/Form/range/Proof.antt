@@ -1,3 +1,4 @@
+-- Both ends are the constant within the limit plus the smallest sum, once with the ends of each index exchanged, and fit 64 bits.
 use mathlib.Core.Path.{_∙_}
 use native.Mathlib.Omega.{arith}
 use borrow.Author.Needs.{needs}

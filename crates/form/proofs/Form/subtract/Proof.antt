@@ -1,3 +1,4 @@
+-- The constants of 16 bits subtract within 64, and the factors one by one.
 use native.Mathlib.Omega.{arith}
 use borrow.Author.Needs.{needs}
 use Rattle.meaning.specs.Form as M

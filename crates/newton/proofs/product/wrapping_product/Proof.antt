@@ -1,3 +1,4 @@
+-- Modulo 2^64 the product of two numbers is the low product plus 2^32 times the two products across.
 use mathlib.Core.Path.{_∙_}
 use borrow.Author.Needs.{needs}
 use Rattle.whole.proofs.Word.{product-bits, product-from-halves}

@@ -1,7 +1,6 @@
-use mathlib.Core.Path.{sym}
-use native.Mathlib.Nat.{add-sub-cancel-left}
+-- Where no head is found the body is empty; else it is the part of the sheet that the head says, which lies within it.
 use native.Mathlib.Omega.{arith}
-use Rattle.sheet.proofs.Heads.{headIn, body-found, answer-found, answer-stands, answer-none}
+use Rattle.sheet.proofs.Heads.{answer-stands, answer-body, answer-none}
 use borrow.Author.Needs.{needs}
 use Rattle.sheet.proofs.head.body_at.Statement.{statement}
 use Rattle.sheet.proofs.head.body_at.Tie as tie
@@ -22,10 +21,17 @@ part-result-end : tie.Need-part-result-end
 part-result-end c = search needs
 
 returns : tie.Need-returns
-returns c = answer-none (c .before .before .before .before .args .sheet .now) (c .before .before .before .before .args .at) (c .before .before .head-at .result) (c .before .before .head-at .ensures) (c .before .match .keys2)
+returns c =
+    let head = c .before .before .head-at in
+    let a = c .before .before .before .before .args in
+    answer-none (a .sheet .now) (a .at) (head .result) (head .ensures) (c .before .match .keys2)
 
 add-to : tie.Need-add-to
-add-to c = let s = answer-stands (c .before .before .before .before .before .before .args .sheet .now) (c .before .before .before .before .before .before .args .at) (c .before .before .before .before .head-at .result) (c .before .before .before .before .head-at .ensures) (c .before .before .answer .given .0 .0) (c .before .before .answer .given .1) in omega (arith, s .fits)
+add-to c =
+    let head = c .before .before .before .before .head-at in
+    let a = c .before .before .before .before .before .before .args in
+    let s = answer-stands (a .sheet .now) (a .at) (head .ensures) (c .before .before .answer .given .1) in
+    omega (arith, s .fits)
 
 sub-result-2 : tie.Need-sub-result-2
 sub-result-2 c = search needs
@@ -34,12 +40,16 @@ part-result-start-2 : tie.Need-part-result-start-2
 part-result-start-2 c = search needs
 
 part-result-end-2 : tie.Need-part-result-end-2
-part-result-end-2 c = answer-stands (c .before .before .before .before .before .before .args .sheet .now) (c .before .before .before .before .before .before .args .at) (c .before .before .before .before .head-at .result) (c .before .before .before .before .head-at .ensures) (c .before .before .answer .given .0 .0) (c .before .before .answer .given .1) .fits
+part-result-end-2 c =
+    let head = c .before .before .before .before .head-at in
+    let a = c .before .before .before .before .before .before .args in
+    answer-stands (a .sheet .now) (a .at) (head .ensures) (c .before .before .answer .given .1) .fits
 
 returns-2 : tie.Need-returns-2
 returns-2 c =
-    rw (add-sub-cancel-left (c .before .before .before .answer .given .0 .0 .offset) (c .before .before .before .answer .given .0 .0 .length))
-    (sym (body-found (c .before .before .before .before .before .before .before .args .sheet .now) (c .before .before .before .before .before .before .before .args .at) (headIn (c .before .before .before .answer .given .0 .0)) (answer-found (c .before .before .before .before .before .before .before .args .sheet .now) (c .before .before .before .before .before .before .before .args .at) (c .before .before .before .before .before .head-at .result) (c .before .before .before .before .before .head-at .ensures) (c .before .before .before .answer .given .0 .0) (c .before .before .before .answer .given .1))))
+    let head = c .before .before .before .before .before .head-at in
+    let a = c .before .before .before .before .before .before .before .args in
+    answer-body (a .sheet .now) (a .at) (head .ensures) (c .before .before .before .answer .given .1)
 
 pub body-at-spec : {M : Type 1} → statement M
 body-at-spec =

@@ -1,3 +1,4 @@
+-- Past the end nothing stands; else refusal 2 of a byte that is no kind, refusal 1 of a body cut off, or the head.
 use native.Mathlib.Omega.{arith}
 use borrow.Author.Tests.{ltb-true, ltb-false}
 use mathlib.Core.Logic.{⊎-elim}
@@ -13,7 +14,9 @@ shared-slice-read-kind : tie.Need-shared-slice-read-kind
 shared-slice-read-kind c = search needs
 
 returns-2 : tie.Need-returns-2
-returns-2 c = head-no-kind (c .before .before .before .before .args .sheet .now) (c .before .before .before .before .args .at) (omega arith) (λ above below. ⊎-elim (λ w. omega arith) (λ w. omega (arith, ltb-true)) (c .if2 .came))
+returns-2 c =
+    let a = c .before .before .before .before .args in
+    head-no-kind (a .sheet .now) (a .at) (omega arith) (λ above below. ⊎-elim (λ w. omega arith) (λ w. omega (arith, ltb-true)) (c .if2 .came))
 
 body-length-requires : tie.Need-body-length-requires
 body-length-requires c κs = search needs
@@ -25,13 +28,17 @@ sub-if4-2 : tie.Need-sub-if4-2
 sub-if4-2 c = search needs
 
 returns-3 : tie.Need-returns-3
-returns-3 c = head-short (c .before .before .before .before .before .before .before .args .sheet .now) (c .before .before .before .before .before .before .before .args .at) (omega arith) (c .before .body-length .result) (c .before .body-length .ensures) (omega arith) (omega (arith, ltb-false)) (c .if4 .taken)
+returns-3 c =
+    let a = c .before .before .before .before .before .before .before .args in
+    head-short (a .sheet .now) (a .at) (omega arith) (c .before .body-length .ensures) (omega arith) (omega (arith, ltb-false)) (c .if4 .taken)
 
 add-t5 : tie.Need-add-t5
 add-t5 c = search needs
 
 returns-4 : tie.Need-returns-4
-returns-4 c = head-found (c .before .before .before .before .before .before .before .args .sheet .now) (c .before .before .before .before .before .before .before .args .at) (omega arith) (c .before .body-length .result) (c .before .body-length .ensures) (omega arith) (omega (arith, ltb-false)) (c .if4 .left)
+returns-4 c =
+    let a = c .before .before .before .before .before .before .before .args in
+    head-found (a .sheet .now) (a .at) (omega arith) (c .before .body-length .ensures) (omega arith) (omega (arith, ltb-false)) (c .if4 .left)
 
 pub head-at-spec : {M : Type 1} → statement M
 head-at-spec =

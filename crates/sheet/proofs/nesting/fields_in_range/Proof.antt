@@ -1,24 +1,38 @@
-use mathlib.Core.Path.{_∙_}
-use Rattle.sheet.proofs.Ranges.{pass-work, pass-loop, pass-other}
+-- A work and a loop have their own tests; any other kind has no fields to be out of range.
+use mathlib.Core.Path.{_≡_, refl, sym, ap, _∙_}
+use mathlib.Core.Bool.{true}
+use mathlib.Core.Option.{Option}
+use Rattle.meaning.specs.Record.{Kind, workKind, loopKind, kindNumber, decodeRecord, fieldsInRange}
+use Rattle.sheet.specs.Nestings.{fieldsPassAs, fieldsPass}
+use Rattle.records.proofs.ByKind.{named, without-fields}
 use borrow.Author.Needs.{needs}
 use Rattle.sheet.proofs.nesting.fields_in_range.Statement.{statement}
 use Rattle.sheet.proofs.nesting.fields_in_range.Tie as tie
 
-work-in-range-requires : tie.Need-work-in-range-requires
-work-in-range-requires c κs = search needs
+in-range-requires : tie.Need-in-range-requires
+in-range-requires c κs = search needs
 
 returns : tie.Need-returns
-returns c os d = c .work-in-range .ensures os ∙ pass-work os (c .before .before .before .args .kind) (c .before .before .before .args .body .now) (c .before .if1 .taken)
+unfolding fieldsPass fieldsPassAs kindNumber
+returns c os d =
+    let body = c .before .before .before .args .body .now in
+    c .in-range .ensures os ∙ sym (ap (fieldsPassAs os body) (named workKind (c .before .if1 .taken)))
 
-loop-in-range-requires : tie.Need-loop-in-range-requires
-loop-in-range-requires c κs = search needs
+in-range-requires-2 : tie.Need-in-range-requires-2
+in-range-requires-2 c κs = search needs
 
 returns-2 : tie.Need-returns-2
-returns-2 c os d = c .loop-in-range .ensures os d ∙ pass-loop os (c .before .before .before .before .args .kind) (c .before .before .before .before .args .body .now) (c .before .if2 .taken)
+unfolding fieldsPass fieldsPassAs kindNumber
+returns-2 c os d =
+    let body = c .before .before .before .before .args .body .now in
+    c .in-range2 .ensures os d ∙ sym (ap (fieldsPassAs os body) (named loopKind (c .before .if2 .taken)))
 
 returns-3 : tie.Need-returns-3
-returns-3 c os d = pass-other os (c .before .before .before .args .kind) (c .before .before .before .args .body .now) (c .before .if1 .left) (c .if2 .left)
+unfolding fieldsPass fieldsPassAs fieldsInRange decodeRecord
+returns-3 c os d =
+    let body = c .before .before .before .args .body .now in
+    without-fields (λ (k : Option Kind). true ≡ fieldsPassAs os body k) refl refl refl refl (c .before .if1 .left) (c .if2 .left)
 
 pub fields-in-range-spec : {M : Type 1} → statement M
 fields-in-range-spec =
-    tie.close (tie.spec work-in-range-requires returns loop-in-range-requires returns-2 returns-3)
+    tie.close (tie.spec in-range-requires returns in-range-requires-2 returns-2 returns-3)

@@ -1,3 +1,4 @@
+-- A count is itself, and a refusal counts as 0.
 use mathlib.Core.Path.{sym, ap}
 use Rattle.sheet.specs.declared.reader.ReadAnswer.{ReadAnswer}
 use Rattle.sheet.specs.Answers.{countResult, orZero}

@@ -1,4 +1,4 @@
--- The invariant: the first `k` records are stored, and the next one stands at `at`. The measure is how many are left.
+-- The invariant: the first `number` records are stored, and the next one stands at `at`. The measure is how many are left.
 use native.Mathlib.Omega.{arith}
 use Prim.Native.Nat.{_-_}
 use borrow.Author.Needs.{needs}
@@ -8,16 +8,16 @@ use Rattle.sheet.proofs.reader.decode_all.Statement.{statement}
 use Rattle.sheet.proofs.reader.decode_all.Tie as tie
 
 abbrev Inv-loop : tie.InvT-loop
-Inv-loop sheet count records₀ at₀ k₀ records at k = Decoding sheet count records at k
+Inv-loop sheet count records₀ at₀ number₀ records at number = Decoding sheet count records at number
 
 abbrev μ-loop : tie.MeasureT-loop
-μ-loop sheet count records₀ at₀ k₀ records at k = count - k
+μ-loop sheet count records₀ at₀ number₀ records at number = count - number
 
 blank-requires : tie.Need-blank-requires Inv-loop μ-loop
 blank-requires c κs = search needs
 
 loop-holds : tie.Need-loop-holds Inv-loop μ-loop
-loop-holds c = decoding-start (c .before .before .args .sheet .now) (c .before .before .args .count) (c .blank .result) (c .before .before .pre) (c .blank .ensures)
+loop-holds c = decoding-start (c .before .before .args .sheet .now) (c .before .before .pre) (c .blank .ensures)
 
 head-at-requires : tie.Need-head-at-requires Inv-loop μ-loop
 head-at-requires c κs = search needs
@@ -26,10 +26,16 @@ enum-known-answer : tie.Need-enum-known-answer Inv-loop μ-loop
 enum-known-answer c = search needs
 
 returns : tie.Need-returns Inv-loop μ-loop
-returns c = decoding-finds (c .before .before .before .before .before .before .args .sheet .now) (c .before .before .before .before .before .before .args .count) (c .before .before .before .loop .records) (c .before .before .before .loop .at) (c .before .before .before .loop .k) (c .before .before .before .loop .inv) (c .before .before .loop-test .taken) (c .before .head-at .result) (c .before .head-at .ensures) (c .match .keys2)
+returns c =
+    let head = c .before .head-at in
+    decoding-finds (c .before .before .before .loop .inv) (c .before .before .loop-test .taken) (head .result) (head .ensures) (c .match .keys2)
 
 add-to : tie.Need-add-to Inv-loop μ-loop
-add-to c = let s = answer-stands (c .before .before .before .before .before .before .before .before .before .args .sheet .now) (c .before .before .before .before .before .before .loop .at) (c .before .before .before .before .head-at .result) (c .before .before .before .before .head-at .ensures) (c .before .before .answer .given .0 .0) (c .before .before .answer .given .1) in omega (arith, s .fits, c .before .before .before .before .before .before .before .before .before .good)
+add-to c =
+    let head = c .before .before .before .before in
+    let start = head .before .before .before .before .before in
+    let s = answer-stands (start .args .sheet .now) (head .before .before .loop .at) (head .head-at .ensures) (c .before .before .answer .given .1) in
+    omega (arith, s .fits, start .good)
 
 sub-decode : tie.Need-sub-decode Inv-loop μ-loop
 sub-decode c = search needs
@@ -38,7 +44,11 @@ part-decode-start : tie.Need-part-decode-start Inv-loop μ-loop
 part-decode-start c = search needs
 
 part-decode-end : tie.Need-part-decode-end Inv-loop μ-loop
-part-decode-end c = answer-stands (c .before .before .before .before .before .before .before .before .before .args .sheet .now) (c .before .before .before .before .before .before .loop .at) (c .before .before .before .before .head-at .result) (c .before .before .before .before .head-at .ensures) (c .before .before .answer .given .0 .0) (c .before .before .answer .given .1) .fits
+part-decode-end c =
+    let head = c .before .before .before .before in
+    let start = head .before .before .before .before .before in
+    let s = answer-stands (start .args .sheet .now) (head .before .before .loop .at) (head .head-at .ensures) (c .before .before .answer .given .1) in
+    s .fits
 
 decode-requires : tie.Need-decode-requires Inv-loop μ-loop
 decode-requires c κs = search needs
@@ -49,18 +59,20 @@ mul-records c = search needs
 array-set-from-records : tie.Need-array-set-from-records Inv-loop μ-loop
 array-set-from-records c = search needs
 
-add-k : tie.Need-add-k Inv-loop μ-loop
-add-k c = search needs
+add-number : tie.Need-add-number Inv-loop μ-loop
+add-number c = search needs
 
 loop-less : tie.Need-loop-less Inv-loop μ-loop
 loop-less c = search needs
 
 loop-again : tie.Need-loop-again Inv-loop μ-loop
 loop-again c =
-    decoding-next (c .before .before .before .before .before .before .before .before .before .before .before .args .sheet .now) (c .before .before .before .before .before .before .before .before .before .before .before .args .count) (c .before .before .before .before .before .before .before .before .loop .records) (c .before .before .before .before .before .before .before .before .loop .at) (c .before .before .before .before .before .before .before .before .loop .k) (c .before .before .before .before .before .before .before .before .loop .inv) (c .before .before .before .before .before .before .before .loop-test .taken) (c .before .before .before .before .before .before .head-at .result) (c .before .before .before .before .before .before .head-at .ensures) (c .before .before .before .before .answer .given .0 .0) (c .before .before .before .before .answer .given .1) (c .decode .result) (c .decode .ensures)
+    let head = c .before .before .before .before .before .before in
+    decoding-next (head .before .before .loop .inv) (head .before .loop-test .taken) (head .head-at .ensures)
+    (c .before .before .before .before .answer .given .1) (c .decode .ensures)
 
 returns-2 : tie.Need-returns-2 Inv-loop μ-loop
-returns-2 c = decoding-done (c .before .before .before .before .args .sheet .now) (c .before .before .before .before .args .count) (c .before .loop .records) (c .before .loop .at) (c .before .loop .k) (c .before .loop .inv) (c .loop-test .left)
+returns-2 c = decoding-done (c .before .loop .inv) (c .loop-test .left)
 
 pub decode-all-spec : {M : Type 1} → statement M
 decode-all-spec =
@@ -80,7 +92,7 @@ decode-all-spec =
     decode-requires
     mul-records
     array-set-from-records
-    add-k
+    add-number
     loop-less
     loop-again
     returns-2)

@@ -1,5 +1,6 @@
+-- The check gives the answer and the count, by which the records are decoded; writing them gives the bytes of the sheet back.
 use mathlib.Core.Path.{ap, _∙_}
-use Rattle.sheet.specs.Answers.{countResult, orZero}
+use Rattle.sheet.specs.Answers.{orZero}
 use Rattle.sheet.proofs.WrittenBack.{bytes-all, written-back}
 use borrow.Author.Needs.{needs}
 use Rattle.sheet.proofs.reader.read_sheet.Statement.{statement}
@@ -16,9 +17,10 @@ decode-all-requires c κs = c .count-in .ensures ∙ ap orZero (c .before .check
 
 returns : tie.Need-returns
 returns c =
+    let checked = c .before .before .check-sheet in
     let sheet = c .before .before .before .before .args .sheet .now in
-    let answer = c .before .before .check-sheet in
-    (answer .ensures, (c .decode-all .ensures, written-back sheet (bytes-all sheet (λ i. c .before .before .before .shared-slice-known .given i .fits)) (c .decode-all .result) (countResult (answer .result)) (answer .ensures) (c .decode-all .ensures)))
+    let bytes = bytes-all sheet (λ i. c .before .before .before .shared-slice-known .given i .fits) in
+    (checked .ensures, (c .decode-all .ensures, written-back sheet bytes (checked .ensures) (c .decode-all .ensures)))
 
 pub read-sheet-spec : {M : Type 1} → statement M
 read-sheet-spec =

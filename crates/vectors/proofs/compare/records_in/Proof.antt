@@ -1,14 +1,15 @@
--- The loop stays within the 64 records.
+-- The loop stays within the records that there may be.
 use borrow.Author.Needs.{needs}
 use Prim.Native.Nat.{_≤_, _-_}
+use Rattle.meaning.specs.Limits.{recordLimit}
 use Rattle.vectors.proofs.compare.records_in.Statement.{statement}
 use Rattle.vectors.proofs.compare.records_in.Tie as tie
 
 abbrev Inv-loop : tie.InvT-loop
-Inv-loop entries records₀ k₀ records k = k ≤ 64
+Inv-loop entries records₀ number₀ records number = number ≤ recordLimit
 
 abbrev μ-loop : tie.MeasureT-loop
-μ-loop entries records₀ k₀ records k = 64 - k
+μ-loop entries records₀ number₀ records number = recordLimit - number
 
 blank-requires : tie.Need-blank-requires Inv-loop μ-loop
 blank-requires c κs = search needs
@@ -25,8 +26,8 @@ mul-records c = search needs
 array-set-from-records : tie.Need-array-set-from-records Inv-loop μ-loop
 array-set-from-records c = search needs
 
-add-k : tie.Need-add-k Inv-loop μ-loop
-add-k c = search needs
+add-number : tie.Need-add-number Inv-loop μ-loop
+add-number c = search needs
 
 loop-less : tie.Need-loop-less Inv-loop μ-loop
 loop-less c = search needs
@@ -48,7 +49,7 @@ records-in-spec =
     entry-at-requires
     mul-records
     array-set-from-records
-    add-k
+    add-number
     loop-less
     loop-again
     returns)

@@ -1,14 +1,15 @@
--- The loop stays within the 64 records.
+-- The loop stays within the records that there may be.
 use borrow.Author.Needs.{needs}
 use Prim.Native.Nat.{_≤_, _-_}
+use Rattle.meaning.specs.Limits.{recordLimit}
 use Rattle.vectors.proofs.compare.same_records.Statement.{statement}
 use Rattle.vectors.proofs.compare.same_records.Tie as tie
 
 abbrev Inv-loop : tie.InvT-loop
-Inv-loop a b k₀ k = k ≤ 64
+Inv-loop a b number₀ number = number ≤ recordLimit
 
 abbrev μ-loop : tie.MeasureT-loop
-μ-loop a b k₀ k = 64 - k
+μ-loop a b number₀ number = recordLimit - number
 
 loop-holds : tie.Need-loop-holds Inv-loop μ-loop
 loop-holds c = search needs
@@ -31,8 +32,8 @@ same-record-requires c κs = search needs
 returns : tie.Need-returns Inv-loop μ-loop
 returns c = search needs
 
-add-k : tie.Need-add-k Inv-loop μ-loop
-add-k c = search needs
+add-number : tie.Need-add-number Inv-loop μ-loop
+add-number c = search needs
 
 loop-less : tie.Need-loop-less Inv-loop μ-loop
 loop-less c = search needs
@@ -56,7 +57,7 @@ same-records-spec =
     array-copy-out-same-record-2
     same-record-requires
     returns
-    add-k
+    add-number
     loop-less
     loop-again
     returns-2)

@@ -1,14 +1,15 @@
--- The loop stays within the 64 records.
+-- The loop stays within the records that there may be.
 use borrow.Author.Needs.{needs}
 use Prim.Native.Nat.{_≤_, _-_}
+use Rattle.meaning.specs.Limits.{recordLimit}
 use Rattle.vectors.proofs.plans.same_lines.Statement.{statement}
 use Rattle.vectors.proofs.plans.same_lines.Tie as tie
 
 abbrev Inv-loop : tie.InvT-loop
-Inv-loop rows slopes given at₀ k₀ at k = k ≤ 64
+Inv-loop rows facts limits given at₀ number₀ at number = number ≤ recordLimit
 
 abbrev μ-loop : tie.MeasureT-loop
-μ-loop rows slopes given at₀ k₀ at k = 64 - k
+μ-loop rows facts limits given at₀ number₀ at number = recordLimit - number
 
 loop-holds : tie.Need-loop-holds Inv-loop μ-loop
 loop-holds c = search needs
@@ -22,8 +23,8 @@ after-report-requires c κs = search needs
 returns : tie.Need-returns Inv-loop μ-loop
 returns c = search needs
 
-add-k : tie.Need-add-k Inv-loop μ-loop
-add-k c = search needs
+add-number : tie.Need-add-number Inv-loop μ-loop
+add-number c = search needs
 
 loop-less : tie.Need-loop-less Inv-loop μ-loop
 loop-less c = search needs
@@ -44,7 +45,7 @@ same-lines-spec =
     report-of-requires
     after-report-requires
     returns
-    add-k
+    add-number
     loop-less
     loop-again
     returns-2)

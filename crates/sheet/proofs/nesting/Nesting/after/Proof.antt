@@ -1,45 +1,56 @@
-use mathlib.Core.Path.{_∙_}
-use Rattle.sheet.proofs.Openings.{after-is, after-loop-number, after-choice-number, after-end-number, after-other-number}
+-- A loop or a choice adds one open record, an end closes one; so the numbers stay those of the list of open records.
+use mathlib.Core.Path.{sym, ap, _∙_}
+use Rattle.meaning.specs.Record.{loopKind, endKind, choiceKind, kindNumber}
+use Rattle.sheet.specs.Nestings.{nestingAfterAs, nestingAfter}
+use Rattle.records.proofs.ByKind.{named}
+use Rattle.sheet.proofs.Openings.{after-is, after-other}
 use borrow.Author.Needs.{needs}
 use Rattle.sheet.proofs.nesting.Nesting.after.Statement.{statement}
 use Rattle.sheet.proofs.nesting.Nesting.after.Tie as tie
 
-opened-requires : tie.Need-opened-requires
-opened-requires c κs = search needs
+extended-requires : tie.Need-extended-requires
+extended-requires c κs = search needs
 
 returns : tie.Need-returns
+unfolding nestingAfter nestingAfterAs kindNumber
 returns c =
-    let n = c .opened .ensures ∙ after-loop-number (c .before .before .args .self) (c .before .before .args .kind) (c .before .if1 .taken) in
-    (n, λ os us e a. n ∙ after-is (c .before .before .args .self) os us e (c .before .before .args .kind) a)
+    let a = c .before .before .args in
+    let n = c .extended .ensures ∙ sym (ap (nestingAfterAs (a .self)) (named loopKind (c .before .if1 .taken))) in
+    (n, λ os us e h. n ∙ after-is os e (a .kind) h)
 
-opened-requires-2 : tie.Need-opened-requires-2
-opened-requires-2 c κs = search needs
+extended-requires-2 : tie.Need-extended-requires-2
+extended-requires-2 c κs = search needs
 
 returns-2 : tie.Need-returns-2
+unfolding nestingAfter nestingAfterAs kindNumber
 returns-2 c =
-    let n = c .opened2 .ensures ∙ after-choice-number (c .before .before .before .args .self) (c .before .before .before .args .kind) (c .before .if2 .taken) in
-    (n, λ os us e a. n ∙ after-is (c .before .before .before .args .self) os us e (c .before .before .before .args .kind) a)
+    let a = c .before .before .before .args in
+    let n = c .extended2 .ensures ∙ sym (ap (nestingAfterAs (a .self)) (named choiceKind (c .before .if2 .taken))) in
+    (n, λ os us e h. n ∙ after-is os e (a .kind) h)
 
 closed-requires : tie.Need-closed-requires
 closed-requires c κs = search needs
 
 returns-3 : tie.Need-returns-3
+unfolding nestingAfter nestingAfterAs kindNumber
 returns-3 c =
-    let n = c .closed .ensures ∙ after-end-number (c .before .before .before .before .args .self) (c .before .before .before .before .args .kind) (c .before .if3 .taken) in
-    (n, λ os us e a. n ∙ after-is (c .before .before .before .before .args .self) os us e (c .before .before .before .before .args .kind) a)
+    let a = c .before .before .before .before .args in
+    let n = c .closed .ensures ∙ sym (ap (nestingAfterAs (a .self)) (named endKind (c .before .if3 .taken))) in
+    (n, λ os us e h. n ∙ after-is os e (a .kind) h)
 
 returns-4 : tie.Need-returns-4
 returns-4 c =
-    let n = after-other-number (c .before .before .before .args .self) (c .before .before .before .args .kind) (c .before .before .if1 .left) (c .before .if2 .left) (c .if3 .left) in
-    (n, λ os us e a. n ∙ after-is (c .before .before .before .args .self) os us e (c .before .before .before .args .kind) a)
+    let a = c .before .before .before .args in
+    let n = after-other (a .self) (c .before .before .if1 .left) (c .before .if2 .left) (c .if3 .left) in
+    (n, λ os us e h. n ∙ after-is os e (a .kind) h)
 
 pub after-spec : {M : Type 1} → statement M
 after-spec =
     tie.close
     (tie.spec
-    opened-requires
+    extended-requires
     returns
-    opened-requires-2
+    extended-requires-2
     returns-2
     closed-requires
     returns-3

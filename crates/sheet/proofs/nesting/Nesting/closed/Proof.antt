@@ -1,3 +1,4 @@
+-- Where nothing is open, or a loop would close and none is open, it stays; else each number is one record less, without wrapping.
 use mathlib.Core.Logic.{inl, inr, ⊎-elim}
 use native.Mathlib.Omega.{arith}
 use borrow.Author.Tests.{ltb-true, ltb-false}

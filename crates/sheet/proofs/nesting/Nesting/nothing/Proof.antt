@@ -1,3 +1,4 @@
+-- Of the empty list of open records all three numbers are 0.
 use mathlib.Core.Path.{refl}
 use Rattle.meaning.specs.Record.{loopDepth}
 use Rattle.sheet.specs.Nestings.{nestingOf, loopBits}

@@ -1,0 +1,4 @@
+pub mod Fields
+pub mod Patterns
+pub mod Appending
+pub mod Digits

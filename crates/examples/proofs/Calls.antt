@@ -1,0 +1,381 @@
+-- The writer, the C call, the record reader and the program's text, by cases.
+-- Last three numbers that only theorems name.
+use mathlib.Core.Path.{_≡_, refl}
+use mathlib.Core.List.{[], _∷_}
+use lib.IntN.{pos, negsuc}
+use Rattle.meaning.specs.Limits.{figureLimit, visitsPerLoop, inputLimit}
+use Rattle.meaning.specs.Form.{Form}
+use Rattle.meaning.specs.Reader.{refused, headAt, bodyAt}
+use Rattle.meaning.specs.Writer.{RawRecord, write}
+use Rattle.meaning.specs.CCall.{cCall}
+use Rattle.meaning.specs.Text.{text}
+use Rattle.meaning.specs.Program.{programText}
+use Rattle.meaning.proofs.Vocabulary.{hex, zeroParameters, form, raw, written, notWritten, called, found, sheetEnd}
+use Rattle.meaning.proofs.Computes.{computes}
+
+abbrev noForm : Form
+noForm = form (pos 0) (pos 0 ∷ pos 0 ∷ pos 0 ∷ []) (pos 0 ∷ pos 0 ∷ pos 0 ∷ pos 0 ∷ [])
+
+abbrev aWork : RawRecord
+aWork = raw 1 1 2 0 0 0 noForm noForm
+
+abbrev aLoop : RawRecord
+aLoop = raw 2 0 0 0 0 1 noForm (form (pos 3) (pos 0 ∷ pos 0 ∷ pos 0 ∷ []) (pos 0 ∷ pos 0 ∷ pos 0 ∷ pos 0 ∷ []))
+
+abbrev anEnd : RawRecord
+anEnd = raw 3 0 0 0 0 0 noForm noForm
+
+abbrev aChoice : RawRecord
+aChoice = raw 4 0 0 0 0 0 noForm noForm
+
+abbrev aNextArm : RawRecord
+aNextArm = raw 5 0 0 0 0 0 noForm noForm
+
+pub writer-1 :
+    -- count 0, no buffer
+    (write [] 0 [] ≡ written 0 [])
+    -- count 0, the buffer stays
+    × (write [] 0 (hex "c9ca") ≡ written 0 (hex "c9ca"))
+    -- count 0, an entry of no kind past it
+    × (write (raw 9 0 0 0 0 0 noForm noForm ∷ []) 0 (hex "07") ≡ written 0 (hex "07"))
+    -- count 1, entries past it are not looked at
+    × (write (aWork ∷ raw 9 3 0 0 0 0 noForm noForm ∷ aChoice ∷ []) 1 (hex "05060708090a") ≡ written 5 (hex "01010002000a"))
+    -- 63 records
+    × (write (aChoice ∷ aNextArm ∷ anEnd ∷ aChoice ∷ aNextArm ∷ anEnd ∷ aChoice ∷ aNextArm ∷ anEnd ∷ aChoice ∷ aNextArm ∷ anEnd ∷ aChoice ∷ aNextArm ∷ anEnd ∷ aChoice ∷ aNextArm ∷ anEnd ∷ aChoice ∷ aNextArm ∷ anEnd ∷ aChoice ∷ aNextArm ∷ anEnd ∷ aChoice ∷ aNextArm ∷ anEnd ∷ aChoice ∷ aNextArm ∷ anEnd ∷ aChoice ∷ aNextArm ∷ anEnd ∷ aChoice ∷ aNextArm ∷ anEnd ∷ aChoice ∷ aNextArm ∷ anEnd ∷ aChoice ∷ aNextArm ∷ anEnd ∷ aChoice ∷ aNextArm ∷ anEnd ∷ aChoice ∷ aNextArm ∷ anEnd ∷ aChoice ∷ aNextArm ∷ anEnd ∷ aChoice ∷ aNextArm ∷ anEnd ∷ aChoice ∷ aNextArm ∷ anEnd ∷ aChoice ∷ aNextArm ∷ anEnd ∷ aChoice ∷ aNextArm ∷ anEnd ∷ []) 63 (hex "c9cacbcccdcecfd0d1d2d3d4d5d6d7d8d9dadbdcdddedfe0e1e2e3e4e5e6e7e8e9eaebecedeeeff0f1f2f3f4f5f6f7f8f9fac9cacbcccdcecfd0d1d2d3d4d5d6") ≡ written 63 (hex "040503040503040503040503040503040503040503040503040503040503040503040503040503040503040503040503040503040503040503040503040503d6"))
+    -- 64 records
+    × (write (aChoice ∷ anEnd ∷ aChoice ∷ anEnd ∷ aChoice ∷ anEnd ∷ aChoice ∷ anEnd ∷ aChoice ∷ anEnd ∷ aChoice ∷ anEnd ∷ aChoice ∷ anEnd ∷ aChoice ∷ anEnd ∷ aChoice ∷ anEnd ∷ aChoice ∷ anEnd ∷ aChoice ∷ anEnd ∷ aChoice ∷ anEnd ∷ aChoice ∷ anEnd ∷ aChoice ∷ anEnd ∷ aChoice ∷ anEnd ∷ aChoice ∷ anEnd ∷ aChoice ∷ anEnd ∷ aChoice ∷ anEnd ∷ aChoice ∷ anEnd ∷ aChoice ∷ anEnd ∷ aChoice ∷ anEnd ∷ aChoice ∷ anEnd ∷ aChoice ∷ anEnd ∷ aChoice ∷ anEnd ∷ aChoice ∷ anEnd ∷ aChoice ∷ anEnd ∷ aChoice ∷ anEnd ∷ aChoice ∷ anEnd ∷ aChoice ∷ anEnd ∷ aChoice ∷ anEnd ∷ aChoice ∷ anEnd ∷ aChoice ∷ anEnd ∷ []) 64 (hex "c9cacbcccdcecfd0d1d2d3d4d5d6d7d8d9dadbdcdddedfe0e1e2e3e4e5e6e7e8e9eaebecedeeeff0f1f2f3f4f5f6f7f8f9fac9cacbcccdcecfd0d1d2d3d4d5d6") ≡ written 64 (hex "04030403040304030403040304030403040304030403040304030403040304030403040304030403040304030403040304030403040304030403040304030403"))
+    -- 64 records, a byte short
+    × (write (aChoice ∷ anEnd ∷ aChoice ∷ anEnd ∷ aChoice ∷ anEnd ∷ aChoice ∷ anEnd ∷ aChoice ∷ anEnd ∷ aChoice ∷ anEnd ∷ aChoice ∷ anEnd ∷ aChoice ∷ anEnd ∷ aChoice ∷ anEnd ∷ aChoice ∷ anEnd ∷ aChoice ∷ anEnd ∷ aChoice ∷ anEnd ∷ aChoice ∷ anEnd ∷ aChoice ∷ anEnd ∷ aChoice ∷ anEnd ∷ aChoice ∷ anEnd ∷ aChoice ∷ anEnd ∷ aChoice ∷ anEnd ∷ aChoice ∷ anEnd ∷ aChoice ∷ anEnd ∷ aChoice ∷ anEnd ∷ aChoice ∷ anEnd ∷ aChoice ∷ anEnd ∷ aChoice ∷ anEnd ∷ aChoice ∷ anEnd ∷ aChoice ∷ anEnd ∷ aChoice ∷ anEnd ∷ aChoice ∷ anEnd ∷ aChoice ∷ anEnd ∷ aChoice ∷ anEnd ∷ aChoice ∷ anEnd ∷ aChoice ∷ anEnd ∷ []) 64 (hex "c9cacbcccdcecfd0d1d2d3d4d5d6d7d8d9dadbdcdddedfe0e1e2e3e4e5e6e7e8e9eaebecedeeeff0f1f2f3f4f5f6f7f8f9fac9cacbcccdcecfd0d1d2d3d4d5") ≡ notWritten 9 0 (hex "c9cacbcccdcecfd0d1d2d3d4d5d6d7d8d9dadbdcdddedfe0e1e2e3e4e5e6e7e8e9eaebecedeeeff0f1f2f3f4f5f6f7f8f9fac9cacbcccdcecfd0d1d2d3d4d5"))
+    -- count 65
+    × (write (aChoice ∷ anEnd ∷ aChoice ∷ anEnd ∷ aChoice ∷ anEnd ∷ aChoice ∷ anEnd ∷ aChoice ∷ anEnd ∷ aChoice ∷ anEnd ∷ aChoice ∷ anEnd ∷ aChoice ∷ anEnd ∷ aChoice ∷ anEnd ∷ aChoice ∷ anEnd ∷ aChoice ∷ anEnd ∷ aChoice ∷ anEnd ∷ aChoice ∷ anEnd ∷ aChoice ∷ anEnd ∷ aChoice ∷ anEnd ∷ aChoice ∷ anEnd ∷ aChoice ∷ anEnd ∷ aChoice ∷ anEnd ∷ aChoice ∷ anEnd ∷ aChoice ∷ anEnd ∷ aChoice ∷ anEnd ∷ aChoice ∷ anEnd ∷ aChoice ∷ anEnd ∷ aChoice ∷ anEnd ∷ aChoice ∷ anEnd ∷ aChoice ∷ anEnd ∷ aChoice ∷ anEnd ∷ aChoice ∷ anEnd ∷ aChoice ∷ anEnd ∷ aChoice ∷ anEnd ∷ aChoice ∷ anEnd ∷ aChoice ∷ anEnd ∷ []) 65 (hex "0102") ≡ notWritten 4 0 (hex "0102"))
+    -- 4 before 2
+    × (write (raw 9 0 0 0 0 0 noForm noForm ∷ []) 65 [] ≡ notWritten 4 0 [])
+    -- buffer just as long
+    × (write (aWork ∷ []) 1 (hex "c9cacbcccd") ≡ written 5 (hex "0101000200"))
+    -- buffer one shorter
+    × (write (aWork ∷ []) 1 (hex "c9cacbcc") ≡ notWritten 9 0 (hex "c9cacbcc"))
+    -- buffer longer
+    × (write (aWork ∷ []) 1 (hex "c9cacbcccdcecfd0") ≡ written 5 (hex "0101000200cecfd0"))
+    -- no buffer
+    × (write (aWork ∷ []) 1 [] ≡ notWritten 9 0 [])
+    -- all kinds
+    × (write (aChoice ∷ aLoop ∷ aWork ∷ anEnd ∷ aNextArm ∷ anEnd ∷ []) 6 (hex "c9cacbcccdcecfd0d1d2d3d4d5d6d7d8d9dadbdcdddedfe0e1e2e3e4e5e6e7e8e9eaebec") ≡ written 34 (hex "04020000000001000000000000000000000300000000000000000101000200030503ebec"))
+    -- a loop's fields in order, signed ones
+    × (write (raw 2 0 0 4095 258 1000 (form (negsuc 1) (pos 0 ∷ pos 0 ∷ pos 0 ∷ []) (pos 1 ∷ negsuc 0 ∷ pos 127 ∷ negsuc 127 ∷ [])) (form (pos 300) (pos 0 ∷ pos 0 ∷ pos 0 ∷ []) (negsuc 2 ∷ pos 4 ∷ pos 0 ∷ pos 5 ∷ [])) ∷ anEnd ∷ []) 2 (hex "c9cacbcccdcecfd0d1d2d3d4d5d6d7d8d9dadbdcdddedfe0e1e2") ≡ written 26 (hex "02ff0f0201e803feff00000001ff7f802c01000000fd04000503"))
+    -- kind 0
+    × (write (raw 0 0 0 0 0 0 noForm noForm ∷ []) 1 (hex "c9cacbcc") ≡ notWritten 2 0 (hex "c9cacbcc"))
+    -- kind 6
+    × (write (raw 6 0 0 0 0 0 noForm noForm ∷ []) 1 (hex "c9cacbcc") ≡ notWritten 2 0 (hex "c9cacbcc"))
+    -- kind 255 after a work
+    × (write (aWork ∷ raw 255 0 0 0 0 0 noForm noForm ∷ []) 2 (hex "c9cacbcc") ≡ notWritten 2 5 (hex "c9cacbcc"))
+    -- 2 before 3
+    × (write (raw 6 1 0 0 0 2000 noForm noForm ∷ []) 1 (hex "c9cacbcc") ≡ notWritten 2 0 (hex "c9cacbcc"))
+    -- most 4,095
+    × (write (raw 1 0 4095 0 0 0 noForm noForm ∷ []) 1 (hex "c9cacbcccd") ≡ written 5 (hex "010000ff0f"))
+unfolding computes
+writer-1 = (refl, refl, refl, refl, refl, refl, refl, refl, refl, refl, refl, refl, refl, refl, refl, refl, refl, refl, refl, refl)
+
+pub writer-2 :
+    -- least 4,095
+    (write (raw 1 4095 4095 0 0 0 noForm noForm ∷ []) 1 (hex "c9cacbcccd") ≡ written 5 (hex "01ff0fff0f"))
+    -- most 4,096
+    × (write (raw 1 0 4096 0 0 0 noForm noForm ∷ []) 1 (hex "c9cacbcccd") ≡ notWritten 3 0 (hex "c9cacbcccd"))
+    -- most 65,535
+    × (write (raw 1 0 65535 0 0 0 noForm noForm ∷ []) 1 (hex "c9cacbcccd") ≡ notWritten 3 0 (hex "c9cacbcccd"))
+    -- least above most
+    × (write (raw 1 3 2 0 0 0 noForm noForm ∷ []) 1 (hex "c9cacbcccd") ≡ notWritten 3 0 (hex "c9cacbcccd"))
+    -- 3 at the second record
+    × (write (aWork ∷ raw 1 1 0 0 0 0 noForm noForm ∷ []) 2 (hex "c9cacbcccdcecfd0d1d2") ≡ notWritten 3 5 (hex "c9cacbcccdcecfd0d1d2"))
+    -- start 4,095
+    × (write (raw 2 0 0 4095 0 1 noForm (form (pos 3) (pos 0 ∷ pos 0 ∷ pos 0 ∷ []) (pos 0 ∷ pos 0 ∷ pos 0 ∷ pos 0 ∷ [])) ∷ anEnd ∷ []) 2 (hex "c9cacbcccdcecfd0d1d2d3d4d5d6d7d8d9dadbdcdddedfe0e1e2") ≡ written 26 (hex "02ff0f0000010000000000000000000003000000000000000003"))
+    -- start 4,096
+    × (write (raw 2 0 0 4096 0 1 noForm (form (pos 3) (pos 0 ∷ pos 0 ∷ pos 0 ∷ []) (pos 0 ∷ pos 0 ∷ pos 0 ∷ pos 0 ∷ [])) ∷ anEnd ∷ []) 2 (hex "c9cacbcccdcecfd0d1d2d3d4d5d6d7d8d9dadbdcdddedfe0e1e2") ≡ notWritten 3 0 (hex "c9cacbcccdcecfd0d1d2d3d4d5d6d7d8d9dadbdcdddedfe0e1e2"))
+    -- step 4,095
+    × (write (raw 2 0 0 0 4095 1 noForm (form (pos 3) (pos 0 ∷ pos 0 ∷ pos 0 ∷ []) (pos 0 ∷ pos 0 ∷ pos 0 ∷ pos 0 ∷ [])) ∷ anEnd ∷ []) 2 (hex "c9cacbcccdcecfd0d1d2d3d4d5d6d7d8d9dadbdcdddedfe0e1e2") ≡ written 26 (hex "020000ff0f010000000000000000000003000000000000000003"))
+    -- step 4,096
+    × (write (raw 2 0 0 0 4096 1 noForm (form (pos 3) (pos 0 ∷ pos 0 ∷ pos 0 ∷ []) (pos 0 ∷ pos 0 ∷ pos 0 ∷ pos 0 ∷ [])) ∷ anEnd ∷ []) 2 (hex "c9cacbcccdcecfd0d1d2d3d4d5d6d7d8d9dadbdcdddedfe0e1e2") ≡ notWritten 3 0 (hex "c9cacbcccdcecfd0d1d2d3d4d5d6d7d8d9dadbdcdddedfe0e1e2"))
+    -- stride 0
+    × (write (raw 2 0 0 0 0 0 noForm (form (pos 3) (pos 0 ∷ pos 0 ∷ pos 0 ∷ []) (pos 0 ∷ pos 0 ∷ pos 0 ∷ pos 0 ∷ [])) ∷ anEnd ∷ []) 2 (hex "c9cacbcccdcecfd0d1d2d3d4d5d6d7d8d9dadbdcdddedfe0e1e2") ≡ notWritten 3 0 (hex "c9cacbcccdcecfd0d1d2d3d4d5d6d7d8d9dadbdcdddedfe0e1e2"))
+    -- stride 1,000
+    × (write (raw 2 0 0 0 0 1000 noForm (form (pos 3) (pos 0 ∷ pos 0 ∷ pos 0 ∷ []) (pos 0 ∷ pos 0 ∷ pos 0 ∷ pos 0 ∷ [])) ∷ anEnd ∷ []) 2 (hex "c9cacbcccdcecfd0d1d2d3d4d5d6d7d8d9dadbdcdddedfe0e1e2") ≡ written 26 (hex "0200000000e80300000000000000000003000000000000000003"))
+    -- stride 1,001
+    × (write (raw 2 0 0 0 0 1001 noForm (form (pos 3) (pos 0 ∷ pos 0 ∷ pos 0 ∷ []) (pos 0 ∷ pos 0 ∷ pos 0 ∷ pos 0 ∷ [])) ∷ anEnd ∷ []) 2 (hex "c9cacbcccdcecfd0d1d2d3d4d5d6d7d8d9dadbdcdddedfe0e1e2") ≡ notWritten 3 0 (hex "c9cacbcccdcecfd0d1d2d3d4d5d6d7d8d9dadbdcdddedfe0e1e2"))
+    -- lower form's own depth
+    × (write (raw 2 0 0 0 0 1 (form (pos 0) (pos 1 ∷ pos 0 ∷ pos 0 ∷ []) (pos 0 ∷ pos 0 ∷ pos 0 ∷ pos 0 ∷ [])) (form (pos 3) (pos 0 ∷ pos 0 ∷ pos 0 ∷ []) (pos 0 ∷ pos 0 ∷ pos 0 ∷ pos 0 ∷ [])) ∷ anEnd ∷ []) 2 (hex "c9cacbcccdcecfd0d1d2d3d4d5d6d7d8d9dadbdcdddedfe0e1e2") ≡ notWritten 3 0 (hex "c9cacbcccdcecfd0d1d2d3d4d5d6d7d8d9dadbdcdddedfe0e1e2"))
+    -- upper form's depth 3
+    × (write (raw 2 0 0 0 0 1 noForm (form (pos 0) (pos 0 ∷ pos 0 ∷ negsuc 0 ∷ []) (pos 0 ∷ pos 0 ∷ pos 0 ∷ pos 0 ∷ [])) ∷ anEnd ∷ []) 2 (hex "c9cacbcccdcecfd0d1d2d3d4d5d6d7d8d9dadbdcdddedfe0e1e2") ≡ notWritten 3 0 (hex "c9cacbcccdcecfd0d1d2d3d4d5d6d7d8d9dadbdcdddedfe0e1e2"))
+    -- enclosing depth
+    × (write (aLoop ∷ raw 2 0 0 0 0 1 (form (pos 0) (negsuc 0 ∷ pos 0 ∷ pos 0 ∷ []) (pos 0 ∷ pos 0 ∷ pos 0 ∷ pos 0 ∷ [])) (form (pos 0) (pos 1 ∷ pos 0 ∷ pos 0 ∷ []) (pos 0 ∷ pos 0 ∷ pos 0 ∷ pos 0 ∷ [])) ∷ anEnd ∷ anEnd ∷ []) 4 (hex "c9cacbcccdcecfd0d1d2d3d4d5d6d7d8d9dadbdcdddedfe0e1e2e3e4e5e6e7e8e9eaebecedeeeff0f1f2f3f4f5f6f7f8f9fac9ca") ≡ written 52 (hex "02000000000100000000000000000000030000000000000000020000000001000000ff0000000000000000010000000000000303"))
+    -- own depth 2
+    × (write (aLoop ∷ raw 2 0 0 0 0 1 noForm (form (pos 0) (pos 0 ∷ pos 1 ∷ pos 0 ∷ []) (pos 0 ∷ pos 0 ∷ pos 0 ∷ pos 0 ∷ [])) ∷ []) 2 (hex "c9cacbcccdcecfd0d1d2d3d4d5d6d7d8d9dadbdcdddedfe0e1e2e3e4e5e6") ≡ notWritten 3 25 (hex "c9cacbcccdcecfd0d1d2d3d4d5d6d7d8d9dadbdcdddedfe0e1e2e3e4e5e6"))
+    -- a choice is no depth
+    × (write (aChoice ∷ raw 2 0 0 0 0 1 noForm (form (pos 0) (pos 1 ∷ pos 0 ∷ pos 0 ∷ []) (pos 0 ∷ pos 0 ∷ pos 0 ∷ pos 0 ∷ [])) ∷ []) 2 (hex "c9cacbcccdcecfd0d1d2d3d4d5d6d7d8d9dadbdcdddedfe0e1e2e3e4e5e6") ≡ notWritten 3 1 (hex "c9cacbcccdcecfd0d1d2d3d4d5d6d7d8d9dadbdcdddedfe0e1e2e3e4e5e6"))
+    -- work with a start
+    × (write (aChoice ∷ raw 1 1 2 1 0 0 noForm noForm ∷ []) 2 (hex "c9cacbcc") ≡ notWritten 3 1 (hex "c9cacbcc"))
+    -- work with a step
+    × (write (aChoice ∷ raw 1 1 2 0 1 0 noForm noForm ∷ []) 2 (hex "c9cacbcc") ≡ notWritten 3 1 (hex "c9cacbcc"))
+    -- work with a stride
+    × (write (aChoice ∷ raw 1 1 2 0 0 1 noForm noForm ∷ []) 2 (hex "c9cacbcc") ≡ notWritten 3 1 (hex "c9cacbcc"))
+unfolding computes
+writer-2 = (refl, refl, refl, refl, refl, refl, refl, refl, refl, refl, refl, refl, refl, refl, refl, refl, refl, refl, refl, refl)
+
+pub writer-3 :
+    -- work with a lower
+    (write (aChoice ∷ raw 1 1 2 0 0 0 (form (pos 1) (pos 0 ∷ pos 0 ∷ pos 0 ∷ []) (pos 0 ∷ pos 0 ∷ pos 0 ∷ pos 0 ∷ [])) noForm ∷ []) 2 (hex "c9cacbcc") ≡ notWritten 3 1 (hex "c9cacbcc"))
+    -- work with a upper
+    × (write (aChoice ∷ raw 1 1 2 0 0 0 noForm (form (pos 0) (pos 0 ∷ pos 0 ∷ pos 0 ∷ []) (pos 0 ∷ pos 0 ∷ pos 0 ∷ negsuc 0 ∷ [])) ∷ []) 2 (hex "c9cacbcc") ≡ notWritten 3 1 (hex "c9cacbcc"))
+    -- loop with a least
+    × (write (aChoice ∷ raw 2 1 0 0 0 1 noForm (form (pos 3) (pos 0 ∷ pos 0 ∷ pos 0 ∷ []) (pos 0 ∷ pos 0 ∷ pos 0 ∷ pos 0 ∷ [])) ∷ []) 2 (hex "c9cacbcc") ≡ notWritten 3 1 (hex "c9cacbcc"))
+    -- loop with a most
+    × (write (aChoice ∷ raw 2 0 1 0 0 1 noForm (form (pos 3) (pos 0 ∷ pos 0 ∷ pos 0 ∷ []) (pos 0 ∷ pos 0 ∷ pos 0 ∷ pos 0 ∷ [])) ∷ []) 2 (hex "c9cacbcc") ≡ notWritten 3 1 (hex "c9cacbcc"))
+    -- end with a least
+    × (write (aChoice ∷ raw 3 1 0 0 0 0 noForm noForm ∷ []) 2 (hex "c9cacbcc") ≡ notWritten 3 1 (hex "c9cacbcc"))
+    -- end with a most
+    × (write (aChoice ∷ raw 3 0 1 0 0 0 noForm noForm ∷ []) 2 (hex "c9cacbcc") ≡ notWritten 3 1 (hex "c9cacbcc"))
+    -- end with a start
+    × (write (aChoice ∷ raw 3 0 0 1 0 0 noForm noForm ∷ []) 2 (hex "c9cacbcc") ≡ notWritten 3 1 (hex "c9cacbcc"))
+    -- end with a step
+    × (write (aChoice ∷ raw 3 0 0 0 1 0 noForm noForm ∷ []) 2 (hex "c9cacbcc") ≡ notWritten 3 1 (hex "c9cacbcc"))
+    -- end with a stride
+    × (write (aChoice ∷ raw 3 0 0 0 0 1 noForm noForm ∷ []) 2 (hex "c9cacbcc") ≡ notWritten 3 1 (hex "c9cacbcc"))
+    -- end with a lower
+    × (write (aChoice ∷ raw 3 0 0 0 0 0 (form (pos 1) (pos 0 ∷ pos 0 ∷ pos 0 ∷ []) (pos 0 ∷ pos 0 ∷ pos 0 ∷ pos 0 ∷ [])) noForm ∷ []) 2 (hex "c9cacbcc") ≡ notWritten 3 1 (hex "c9cacbcc"))
+    -- end with a upper
+    × (write (aChoice ∷ raw 3 0 0 0 0 0 noForm (form (pos 0) (pos 0 ∷ pos 0 ∷ pos 0 ∷ []) (pos 0 ∷ pos 0 ∷ pos 0 ∷ negsuc 0 ∷ [])) ∷ []) 2 (hex "c9cacbcc") ≡ notWritten 3 1 (hex "c9cacbcc"))
+    -- choice with a least
+    × (write (aChoice ∷ raw 4 1 0 0 0 0 noForm noForm ∷ []) 2 (hex "c9cacbcc") ≡ notWritten 3 1 (hex "c9cacbcc"))
+    -- choice with a most
+    × (write (aChoice ∷ raw 4 0 1 0 0 0 noForm noForm ∷ []) 2 (hex "c9cacbcc") ≡ notWritten 3 1 (hex "c9cacbcc"))
+    -- choice with a start
+    × (write (aChoice ∷ raw 4 0 0 1 0 0 noForm noForm ∷ []) 2 (hex "c9cacbcc") ≡ notWritten 3 1 (hex "c9cacbcc"))
+    -- choice with a step
+    × (write (aChoice ∷ raw 4 0 0 0 1 0 noForm noForm ∷ []) 2 (hex "c9cacbcc") ≡ notWritten 3 1 (hex "c9cacbcc"))
+    -- choice with a stride
+    × (write (aChoice ∷ raw 4 0 0 0 0 1 noForm noForm ∷ []) 2 (hex "c9cacbcc") ≡ notWritten 3 1 (hex "c9cacbcc"))
+    -- choice with a lower
+    × (write (aChoice ∷ raw 4 0 0 0 0 0 (form (pos 1) (pos 0 ∷ pos 0 ∷ pos 0 ∷ []) (pos 0 ∷ pos 0 ∷ pos 0 ∷ pos 0 ∷ [])) noForm ∷ []) 2 (hex "c9cacbcc") ≡ notWritten 3 1 (hex "c9cacbcc"))
+    -- choice with a upper
+    × (write (aChoice ∷ raw 4 0 0 0 0 0 noForm (form (pos 0) (pos 0 ∷ pos 0 ∷ pos 0 ∷ []) (pos 0 ∷ pos 0 ∷ pos 0 ∷ negsuc 0 ∷ [])) ∷ []) 2 (hex "c9cacbcc") ≡ notWritten 3 1 (hex "c9cacbcc"))
+    -- next arm with a least
+    × (write (aChoice ∷ raw 5 1 0 0 0 0 noForm noForm ∷ []) 2 (hex "c9cacbcc") ≡ notWritten 3 1 (hex "c9cacbcc"))
+    -- next arm with a most
+    × (write (aChoice ∷ raw 5 0 1 0 0 0 noForm noForm ∷ []) 2 (hex "c9cacbcc") ≡ notWritten 3 1 (hex "c9cacbcc"))
+unfolding computes
+writer-3 = (refl, refl, refl, refl, refl, refl, refl, refl, refl, refl, refl, refl, refl, refl, refl, refl, refl, refl, refl, refl)
+
+pub writer-4 :
+    -- next arm with a start
+    (write (aChoice ∷ raw 5 0 0 1 0 0 noForm noForm ∷ []) 2 (hex "c9cacbcc") ≡ notWritten 3 1 (hex "c9cacbcc"))
+    -- next arm with a step
+    × (write (aChoice ∷ raw 5 0 0 0 1 0 noForm noForm ∷ []) 2 (hex "c9cacbcc") ≡ notWritten 3 1 (hex "c9cacbcc"))
+    -- next arm with a stride
+    × (write (aChoice ∷ raw 5 0 0 0 0 1 noForm noForm ∷ []) 2 (hex "c9cacbcc") ≡ notWritten 3 1 (hex "c9cacbcc"))
+    -- next arm with a lower
+    × (write (aChoice ∷ raw 5 0 0 0 0 0 (form (pos 1) (pos 0 ∷ pos 0 ∷ pos 0 ∷ []) (pos 0 ∷ pos 0 ∷ pos 0 ∷ pos 0 ∷ [])) noForm ∷ []) 2 (hex "c9cacbcc") ≡ notWritten 3 1 (hex "c9cacbcc"))
+    -- next arm with a upper
+    × (write (aChoice ∷ raw 5 0 0 0 0 0 noForm (form (pos 0) (pos 0 ∷ pos 0 ∷ pos 0 ∷ []) (pos 0 ∷ pos 0 ∷ pos 0 ∷ negsuc 0 ∷ [])) ∷ []) 2 (hex "c9cacbcc") ≡ notWritten 3 1 (hex "c9cacbcc"))
+    -- end with a factor
+    × (write (aChoice ∷ raw 3 0 0 0 0 0 (form (pos 0) (pos 1 ∷ pos 0 ∷ pos 0 ∷ []) (pos 0 ∷ pos 0 ∷ pos 0 ∷ pos 0 ∷ [])) noForm ∷ []) 2 (hex "c9cacbcc") ≡ notWritten 3 1 (hex "c9cacbcc"))
+    -- end with a factor
+    × (write (aChoice ∷ raw 3 0 0 0 0 0 (form (pos 0) (pos 0 ∷ pos 1 ∷ pos 0 ∷ []) (pos 0 ∷ pos 0 ∷ pos 0 ∷ pos 0 ∷ [])) noForm ∷ []) 2 (hex "c9cacbcc") ≡ notWritten 3 1 (hex "c9cacbcc"))
+    -- end with a factor
+    × (write (aChoice ∷ raw 3 0 0 0 0 0 (form (pos 0) (pos 0 ∷ pos 0 ∷ negsuc 0 ∷ []) (pos 0 ∷ pos 0 ∷ pos 0 ∷ pos 0 ∷ [])) noForm ∷ []) 2 (hex "c9cacbcc") ≡ notWritten 3 1 (hex "c9cacbcc"))
+    -- end with a factor
+    × (write (aChoice ∷ raw 3 0 0 0 0 0 (form (pos 0) (pos 0 ∷ pos 0 ∷ pos 0 ∷ []) (pos 1 ∷ pos 0 ∷ pos 0 ∷ pos 0 ∷ [])) noForm ∷ []) 2 (hex "c9cacbcc") ≡ notWritten 3 1 (hex "c9cacbcc"))
+    -- end with a factor
+    × (write (aChoice ∷ raw 3 0 0 0 0 0 (form (pos 0) (pos 0 ∷ pos 0 ∷ pos 0 ∷ []) (pos 0 ∷ pos 1 ∷ pos 0 ∷ pos 0 ∷ [])) noForm ∷ []) 2 (hex "c9cacbcc") ≡ notWritten 3 1 (hex "c9cacbcc"))
+    -- end with a factor
+    × (write (aChoice ∷ raw 3 0 0 0 0 0 (form (pos 0) (pos 0 ∷ pos 0 ∷ pos 0 ∷ []) (pos 0 ∷ pos 0 ∷ pos 1 ∷ pos 0 ∷ [])) noForm ∷ []) 2 (hex "c9cacbcc") ≡ notWritten 3 1 (hex "c9cacbcc"))
+    -- end with nothing open
+    × (write (anEnd ∷ []) 1 (hex "c9cacbcc") ≡ notWritten 5 0 (hex "c9cacbcc"))
+    -- end with nothing open, later
+    × (write (aWork ∷ aChoice ∷ anEnd ∷ anEnd ∷ []) 4 (hex "c9cacbcc") ≡ notWritten 5 7 (hex "c9cacbcc"))
+    -- next arm with nothing open
+    × (write (aNextArm ∷ []) 1 (hex "c9cacbcc") ≡ notWritten 5 0 (hex "c9cacbcc"))
+    -- next arm in a loop in a choice
+    × (write (aChoice ∷ aLoop ∷ aNextArm ∷ []) 3 (hex "c9cacbcc") ≡ notWritten 5 26 (hex "c9cacbcc"))
+    -- fifth loop depth
+    × (write (aLoop ∷ aLoop ∷ aLoop ∷ aLoop ∷ aLoop ∷ []) 5 (hex "c9cacbcc") ≡ notWritten 5 100 (hex "c9cacbcc"))
+    -- 3 before 5 at the fifth depth
+    × (write (aLoop ∷ aLoop ∷ aLoop ∷ aLoop ∷ raw 2 0 0 0 0 0 noForm (form (pos 3) (pos 0 ∷ pos 0 ∷ pos 0 ∷ []) (pos 0 ∷ pos 0 ∷ pos 0 ∷ pos 0 ∷ [])) ∷ []) 5 (hex "c9cacbcc") ≡ notWritten 3 100 (hex "c9cacbcc"))
+    -- fifth depth, factors of all three depths
+    × (write (aLoop ∷ aLoop ∷ aLoop ∷ aLoop ∷ raw 2 0 0 0 0 1 (form (pos 0) (pos 1 ∷ pos 1 ∷ pos 1 ∷ []) (pos 0 ∷ pos 0 ∷ pos 0 ∷ pos 0 ∷ [])) noForm ∷ []) 5 (hex "c9cacbcc") ≡ notWritten 5 100 (hex "c9cacbcc"))
+    -- ninth open record, a choice
+    × (write (aChoice ∷ aChoice ∷ aChoice ∷ aChoice ∷ aChoice ∷ aChoice ∷ aChoice ∷ aChoice ∷ aChoice ∷ []) 9 (hex "c9cacbcc") ≡ notWritten 5 8 (hex "c9cacbcc"))
+    -- ninth open record, a loop
+    × (write (aChoice ∷ aChoice ∷ aChoice ∷ aChoice ∷ aChoice ∷ aChoice ∷ aChoice ∷ aChoice ∷ aLoop ∷ []) 9 (hex "c9cacbcc") ≡ notWritten 5 8 (hex "c9cacbcc"))
+unfolding computes
+writer-4 = (refl, refl, refl, refl, refl, refl, refl, refl, refl, refl, refl, refl, refl, refl, refl, refl, refl, refl, refl, refl)
+
+pub writer-5 :
+    -- eight open
+    (write (aChoice ∷ aChoice ∷ aChoice ∷ aChoice ∷ aChoice ∷ aChoice ∷ aChoice ∷ aChoice ∷ anEnd ∷ anEnd ∷ anEnd ∷ anEnd ∷ anEnd ∷ anEnd ∷ anEnd ∷ anEnd ∷ []) 16 (hex "c9cacbcccdcecfd0d1d2d3d4d5d6d7d8") ≡ written 16 (hex "04040404040404040303030303030303"))
+    -- open at the end
+    × (write (aWork ∷ aChoice ∷ []) 2 (hex "c9cacbcc") ≡ notWritten 5 6 (hex "c9cacbcc"))
+    -- a loop open at the end
+    × (write (aLoop ∷ aWork ∷ []) 2 (hex "c9cacbcccdcecfd0d1d2d3d4d5d6d7d8d9dadbdcdddedfe0e1e2e3e4e5e6e7e8e9eaebecedeeeff0") ≡ notWritten 5 30 (hex "c9cacbcccdcecfd0d1d2d3d4d5d6d7d8d9dadbdcdddedfe0e1e2e3e4e5e6e7e8e9eaebecedeeeff0"))
+    -- 3 before 5
+    × (write (raw 3 0 1 0 0 0 noForm noForm ∷ []) 1 (hex "c9cacbcc") ≡ notWritten 3 0 (hex "c9cacbcc"))
+    -- 5 of the first before 2 of the second
+    × (write (anEnd ∷ raw 7 0 0 0 0 0 noForm noForm ∷ []) 2 (hex "c9cacbcc") ≡ notWritten 5 0 (hex "c9cacbcc"))
+    -- open at the end before 9
+    × (write (aChoice ∷ []) 1 [] ≡ notWritten 5 1 [])
+unfolding computes
+writer-5 = (refl, refl, refl, refl, refl, refl)
+
+pub c-call-1 :
+    -- area of 24 bytes
+    (cCall (hex "0200000000010000000000000000000009000000000000000002000000000100000000000000000000ffff0100000000000001010001000303") zeroParameters 100 (hex "65666768696a6b6c6d6e6f707172737475767778797a7b7c") ≡ called 0 (hex "2d000000000000002d000000000000000300000000000000"))
+    -- area of 27 bytes: the last three stay
+    × (cCall (hex "0200000000010000000000000000000009000000000000000002000000000100000000000000000000ffff0100000000000001010001000303") zeroParameters 100 (hex "65666768696a6b6c6d6e6f707172737475767778797a7b7c7d7e7f") ≡ called 0 (hex "2d000000000000002d0000000000000003000000000000007d7e7f"))
+    -- area of 23 bytes
+    × (cCall (hex "0200000000010000000000000000000009000000000000000002000000000100000000000000000000ffff0100000000000001010001000303") zeroParameters 100 (hex "65666768696a6b6c6d6e6f707172737475767778797a7b") ≡ called 9 (hex "65666768696a6b6c6d6e6f707172737475767778797a7b"))
+    -- no area
+    × (cCall (hex "0200000000010000000000000000000009000000000000000002000000000100000000000000000000ffff0100000000000001010001000303") zeroParameters 100 [] ≡ called 9 [])
+    -- 9 before 7 and 2
+    × (cCall (hex "09") zeroParameters 0 (hex "65") ≡ called 9 (hex "65"))
+    -- empty sheet
+    × (cCall [] zeroParameters 1 (hex "65666768696a6b6c6d6e6f707172737475767778797a7b7c") ≡ called 0 (hex "000000000000000000000000000000000000000000000000"))
+    -- low byte first
+    × (cCall (hex "0101002c0102ff0fff0f0100000000000000000000ff0700000000000000010000ff0f03") zeroParameters 1 (hex "65666768696a6b6c6d6e6f707172737475767778797a7b7c7d") ≡ called 0 (hex "00088000000000002b0100010000000001000000000000007d"))
+    -- a parameter
+    × (cCall (hex "020000000001000100000000000000000000000000010000000200000000010000000100000000000000000000000100000001010001000303") (pos 100 ∷ pos 0 ∷ pos 0 ∷ pos 0 ∷ []) 4 (hex "65666768696a6b6c6d6e6f707172737475767778797a7b7c") ≡ called 0 (hex "ba13000000000000ba130000000000000400000000000000"))
+    -- budget 0
+    × (cCall (hex "0200000000010000000000000000000009000000000000000002000000000100000000000000000000ffff0100000000000001010001000303") zeroParameters 0 (hex "65666768696a6b6c6d6e6f707172737475767778797a7b7c") ≡ called 7 (hex "65666768696a6b6c6d6e6f707172737475767778797a7b7c"))
+    -- budget 1,000,000
+    × (cCall (hex "0103000500") zeroParameters 1000000 (hex "65666768696a6b6c6d6e6f707172737475767778797a7b7c") ≡ called 0 (hex "030000000000000005000000000000000000000000000000"))
+    -- budget 1,000,001
+    × (cCall (hex "0103000500") zeroParameters 1000001 (hex "65666768696a6b6c6d6e6f707172737475767778797a7b7c") ≡ called 7 (hex "65666768696a6b6c6d6e6f707172737475767778797a7b7c"))
+    -- budget 2^32 - 1, before 2
+    × (cCall (hex "09") zeroParameters 4294967295 (hex "65666768696a6b6c6d6e6f707172737475767778797a7b7c7d") ≡ called 7 (hex "65666768696a6b6c6d6e6f707172737475767778797a7b7c7d"))
+    -- 1
+    × (cCall (hex "0200000000010000000000000000000009000000") zeroParameters 1 (hex "65666768696a6b6c6d6e6f707172737475767778797a7b7c7d7e") ≡ called 1 (hex "65666768696a6b6c6d6e6f707172737475767778797a7b7c7d7e"))
+    -- 2
+    × (cCall (hex "010300050006") zeroParameters 1 (hex "65666768696a6b6c6d6e6f707172737475767778797a7b7c7d7e") ≡ called 2 (hex "65666768696a6b6c6d6e6f707172737475767778797a7b7c7d7e"))
+    -- 3
+    × (cCall (hex "0100000010") zeroParameters 1 (hex "65666768696a6b6c6d6e6f707172737475767778797a7b7c") ≡ called 3 (hex "65666768696a6b6c6d6e6f707172737475767778797a7b7c"))
+    -- 4
+    × (cCall (hex "0403040304030403040304030403040304030403040304030403040304030403040304030403040304030403040304030403040304030403040304030403040309") zeroParameters 1 (hex "65666768696a6b6c6d6e6f707172737475767778797a7b7c") ≡ called 4 (hex "65666768696a6b6c6d6e6f707172737475767778797a7b7c"))
+    -- 5
+    × (cCall (hex "03") zeroParameters 1 (hex "65666768696a6b6c6d6e6f707172737475767778797a7b7c") ≡ called 5 (hex "65666768696a6b6c6d6e6f707172737475767778797a7b7c"))
+    -- 5, open at the end
+    × (cCall (hex "04") zeroParameters 1 (hex "65666768696a6b6c6d6e6f707172737475767778797a7b7c") ≡ called 5 (hex "65666768696a6b6c6d6e6f707172737475767778797a7b7c"))
+    -- 6
+    × (cCall (hex "0200000000010000000000000000000000080000000000000003") zeroParameters 1 (hex "65666768696a6b6c6d6e6f707172737475767778797a7b7c") ≡ called 6 (hex "65666768696a6b6c6d6e6f707172737475767778797a7b7c"))
+    -- 20 visits, budget 20
+    × (cCall (hex "020000000001000000000000000000000900000000000000000200000000020000000000000000000000000100000000000001010001000303") zeroParameters 20 (hex "65666768696a6b6c6d6e6f707172737475767778797a7b7c") ≡ called 0 (hex "1e000000000000001e000000000000001400000000000000"))
+unfolding computes
+c-call-1 = (refl, refl, refl, refl, refl, refl, refl, refl, refl, refl, refl, refl, refl, refl, refl, refl, refl, refl, refl, refl)
+
+pub c-call-2 :
+    -- 20 visits, budget 19
+    (cCall (hex "020000000001000000000000000000000900000000000000000200000000020000000000000000000000000100000000000001010001000303") zeroParameters 19 (hex "65666768696a6b6c6d6e6f707172737475767778797a7b7c") ≡ called 8 (hex "65666768696a6b6c6d6e6f707172737475767778797a7b7c"))
+unfolding computes
+c-call-2 = refl
+
+pub record-reader-1 :
+    -- choice
+    (headAt (hex "04020000000001000000000000000000000300000000000000000101000200030503") 0 ≡ found 4 1 0)
+    × (bodyAt (hex "04020000000001000000000000000000000300000000000000000101000200030503") 0 ≡ [])
+    -- loop
+    × (headAt (hex "04020000000001000000000000000000000300000000000000000101000200030503") 1 ≡ found 2 2 24)
+    × (bodyAt (hex "04020000000001000000000000000000000300000000000000000101000200030503") 1 ≡ (hex "000000000100000000000000000000030000000000000000"))
+    -- work
+    × (headAt (hex "04020000000001000000000000000000000300000000000000000101000200030503") 26 ≡ found 1 27 4)
+    × (bodyAt (hex "04020000000001000000000000000000000300000000000000000101000200030503") 26 ≡ (hex "01000200"))
+    -- end
+    × (headAt (hex "04020000000001000000000000000000000300000000000000000101000200030503") 31 ≡ found 3 32 0)
+    × (bodyAt (hex "04020000000001000000000000000000000300000000000000000101000200030503") 31 ≡ [])
+    -- next arm
+    × (headAt (hex "04020000000001000000000000000000000300000000000000000101000200030503") 32 ≡ found 5 33 0)
+    × (bodyAt (hex "04020000000001000000000000000000000300000000000000000101000200030503") 32 ≡ [])
+    -- last record
+    × (headAt (hex "04020000000001000000000000000000000300000000000000000101000200030503") 33 ≡ found 3 34 0)
+    × (bodyAt (hex "04020000000001000000000000000000000300000000000000000101000200030503") 33 ≡ [])
+    -- the sheet's end
+    × (headAt (hex "04020000000001000000000000000000000300000000000000000101000200030503") 34 ≡ sheetEnd)
+    × (bodyAt (hex "04020000000001000000000000000000000300000000000000000101000200030503") 34 ≡ [])
+    -- past the sheet's end
+    × (headAt (hex "04020000000001000000000000000000000300000000000000000101000200030503") 35 ≡ sheetEnd)
+    × (bodyAt (hex "04020000000001000000000000000000000300000000000000000101000200030503") 35 ≡ [])
+    -- empty sheet
+    × (headAt [] 0 ≡ sheetEnd)
+    × (bodyAt [] 0 ≡ [])
+    -- inside a body
+    × (headAt (hex "04020000000001000000000000000000000300000000000000000101000200030503") 2 ≡ refused 2 2)
+    × (bodyAt (hex "04020000000001000000000000000000000300000000000000000101000200030503") 2 ≡ [])
+unfolding computes
+record-reader-1 = (refl, refl, refl, refl, refl, refl, refl, refl, refl, refl, refl, refl, refl, refl, refl, refl, refl, refl, refl, refl)
+
+pub record-reader-2 :
+    -- loop, one byte short
+    (headAt (hex "04020000000001000000000000000000000300000000000000") 1 ≡ refused 1 1)
+    × (bodyAt (hex "04020000000001000000000000000000000300000000000000") 1 ≡ [])
+    -- loop, just whole
+    × (headAt (hex "0402000000000100000000000000000000030000000000000000") 1 ≡ found 2 2 24)
+    × (bodyAt (hex "0402000000000100000000000000000000030000000000000000") 1 ≡ (hex "000000000100000000000000000000030000000000000000"))
+    -- kind alone
+    × (headAt (hex "02") 0 ≡ refused 1 0)
+    × (bodyAt (hex "02") 0 ≡ [])
+    -- work, one byte short
+    × (headAt (hex "01030005") 0 ≡ refused 1 0)
+    × (bodyAt (hex "01030005") 0 ≡ [])
+    -- work, just whole
+    × (headAt (hex "0103000500") 0 ≡ found 1 1 4)
+    × (bodyAt (hex "0103000500") 0 ≡ (hex "03000500"))
+    -- kind 0
+    × (headAt (hex "00") 0 ≡ refused 2 0)
+    × (bodyAt (hex "00") 0 ≡ [])
+    -- kind 6
+    × (headAt (hex "010300050006") 5 ≡ refused 2 5)
+    × (bodyAt (hex "010300050006") 5 ≡ [])
+    -- kind 255
+    × (headAt (hex "03ff03") 1 ≡ refused 2 1)
+    × (bodyAt (hex "03ff03") 1 ≡ [])
+    -- fields are not looked at
+    × (headAt (hex "01ffff0000") 0 ≡ found 1 1 4)
+    × (bodyAt (hex "01ffff0000") 0 ≡ (hex "ffff0000"))
+unfolding computes
+record-reader-2 = (refl, refl, refl, refl, refl, refl, refl, refl, refl, refl, refl, refl, refl, refl, refl, refl, refl, refl)
+
+pub program-text-1 :
+    -- the printed example
+    (programText (hex "0000000000000000640000000200000000010000000000000000000009000000000000000002000000000100000000000000000000ffff0100000000000001010001000303") ≡ (text "best 45 worst 45 visits 3\nloop 0 closed ceiling 10\nloop 25 closed ceiling 9\n"))
+    -- walked
+    × (programText (hex "000000000000000064000000020000000001000000000000000000000900000000000000000200000000020000000000000000000000000100000000000001010001000303") ≡ (text "best 30 worst 30 visits 20\nloop 0 walked ceiling 10\nloop 25 closed ceiling 5\n"))
+    -- empty sheet
+    × (programText (hex "000000000000000064000000") ≡ (text "best 0 worst 0 visits 0\n"))
+    -- no input
+    × (programText [] ≡ (text "refused 1 at 0\n"))
+    -- 11 bytes
+    × (programText (hex "0000000000000000640000") ≡ (text "refused 1 at 0\n"))
+    -- 2 at a place of two digits
+    × (programText (hex "0000000000000000640000000103000500010300050006") ≡ (text "refused 2 at 10\n"))
+    -- budget 0
+    × (programText (hex "0000000000000000000000000200000000010000000000000000000009000000000000000002000000000100000000000000000000ffff0100000000000001010001000303") ≡ (text "refused 7 at 0\n"))
+    -- budget's third byte
+    × (programText (hex "0000000000000000000001000103000500") ≡ (text "best 3 worst 5 visits 0\n"))
+    -- budget's fourth byte
+    × (programText (hex "0000000000000000010000010103000500") ≡ (text "refused 7 at 0\n"))
+    -- 8
+    × (programText (hex "0000000000000000020000000200000000010000000000000000000009000000000000000002000000000100000000000000000000ffff0100000000000001010001000303") ≡ (text "refused 8 at 0\n"))
+    -- 6 in the second loop
+    × (programText (hex "0000000000000000640000000200000000010000000000000000000001000000000000000002000000000100000000000000000000ff07010000000000000303") ≡ (text "refused 6 at 25\n"))
+    -- parameters in order, signed
+    × (programText (hex "fbff0400d4fe140064000000020000000002000000000000010000fe00000000000003ff000101000a0003") ≡ (text "best 179 worst 1790 visits 1\nloop 0 closed ceiling 179\n"))
+    -- parameters 2 and 4 negative
+    × (programText (hex "0500fcffd4feecff64000000020000000002000000000000010000fe00000000000003ff000101000a0003") ≡ (text "best 122 worst 1220 visits 1\nloop 0 closed ceiling 122\n"))
+    -- a large figure
+    × (programText (hex "0000000000000000640000000101002c0102ff0fff0f0100000000000000000000ff0700000000000000010000ff0f03") ≡ (text "best 8390656 worst 16777515 visits 1\nloop 5 closed ceiling 2048\n"))
+unfolding computes
+program-text-1 = (refl, refl, refl, refl, refl, refl, refl, refl, refl, refl, refl, refl, refl, refl)
+
+pub numbers-1 :
+    -- every figure is below 2^62
+    (figureLimit ≡ 4611686018427387904)
+    -- visits a loop, where every loop is closed
+    × (visitsPerLoop ≡ 24)
+    -- bytes of the program's input that matter
+    × (inputLimit ≡ 1613)
+unfolding computes
+numbers-1 = (refl, refl, refl)

@@ -1,0 +1,80 @@
+-- What was stored is read back: a record's row by its number, a loop's words, facts and limit by its number among the loops.
+use mathlib.Core.List.{_++_, List, [], _∷_}
+use mathlib.Core.Path.{ap, refl, _∙_, _≡_}
+use Prim.Native.Nat.{_%_, _<_, ℕ}
+use native.Mathlib.Nat.{mod-eq-of-lt}
+use lib.ListN.{getD, length}
+use lib.Seq.{paste}
+use lib.IntN.{ℤ}
+use Rattle.meaning.specs.Limits.{recordLimit}
+use Rattle.layout.specs.declared.facts.Fact.{Fact}
+use Rattle.layout.specs.declared.rows.Row.{Row}
+use Rattle.layout.specs.Loops.{differenceFrom, differenceWidth, differenceWords, factFrom, factIn, factNumbers, factWidth, limitAt, loopLimit, wordIn}
+use Rattle.layout.specs.Numbers.{joined, storedIn}
+use Rattle.layout.specs.Rows.{numberIn, rowFrom, rowNumbers, rowWidth}
+use Rattle.layout.proofs.Storing.{read-back, store-next, stored-at, stored-more}
+
+-- ---- rows
+
+abbrev pub blankRow : Row
+blankRow = record { role = 0; first = 0; second = 0; end = 0; enclosing = 0; frame = 0; depth = 0; loops = 0; offset = 0 }
+
+row-width : (r : Row) → length (rowNumbers r) ≡ rowWidth
+unfolding rowNumbers
+row-width r = refl
+
+module _ (before : List ℕ) (rows : List Row) (n : ℕ) where
+  abbrev rowsStored : List ℕ
+  rowsStored = storedIn before (joined rowNumbers rows)
+
+  pub row-number : (column : ℕ) → n < length rows → n < recordLimit → column < rowWidth →
+      numberIn rowsStored n column ≡ getD (rowNumbers (getD rows n blankRow)) column 0
+  unfolding numberIn
+  row-number column h below c = read-back rowNumbers rowWidth row-width recordLimit before rows n column blankRow h below c
+
+  pub row-next : (r : Row) → n ≡ length rows → n < recordLimit →
+      paste rowsStored (rowFrom n) (rowNumbers r) rowWidth ≡ storedIn before (joined rowNumbers (rows ++ (r ∷ [])))
+  row-next r h below = store-next rowNumbers rowWidth row-width recordLimit before rows r n (rowNumbers r) h below refl
+
+-- ---- words
+
+pub differences-width : (stride : ℕ) (base : ℤ) (pushes : List ℤ) → length (differenceWords stride base pushes) ≡ differenceWidth
+unfolding differenceWords
+differences-width stride base pushes = refl
+
+module _ {A : Type 0} (words : A → List ℕ) (wide : (x : A) → length (words x) ≡ differenceWidth) (before : List ℕ) (xs : List A) (n : ℕ) where
+  pub word-number : (column : ℕ) (d : A) → n < length xs → n < loopLimit → column < differenceWidth →
+      wordIn (storedIn before (joined words xs)) n column ≡ getD (words (getD xs n d)) column 0
+  unfolding wordIn
+  word-number column d h below c = read-back words differenceWidth wide loopLimit before xs n column d h below c
+
+  pub words-next : (x : A) (values : List ℕ) → n ≡ length xs → n < loopLimit → values ≡ words x →
+      paste (storedIn before (joined words xs)) (differenceFrom n) values differenceWidth ≡ storedIn before (joined words (xs ++ (x ∷ [])))
+  words-next x values h below v = store-next words differenceWidth wide loopLimit before xs x n values h below v
+
+-- ---- facts
+
+fact-width : (f : Fact) → length (factNumbers f) ≡ factWidth
+unfolding factNumbers
+fact-width f = refl
+
+module _ (before : List ℕ) (facts : List Fact) (n : ℕ) where
+  pub fact-number : (column : ℕ) (d : Fact) → n < length facts → n < loopLimit → column < factWidth →
+      factIn (storedIn before (joined factNumbers facts)) n column ≡ getD (factNumbers (getD facts n d)) column 0
+  unfolding factIn
+  fact-number column d h below c = read-back factNumbers factWidth fact-width loopLimit before facts n column d h below c
+
+  pub facts-next : (f : Fact) (values : List ℕ) → n ≡ length facts → n < loopLimit → values ≡ factNumbers f →
+      paste (storedIn before (joined factNumbers facts)) (factFrom n) values factWidth ≡ storedIn before (joined factNumbers (facts ++ (f ∷ [])))
+  facts-next f values h below v = store-next factNumbers factWidth fact-width loopLimit before facts f n values h below v
+
+-- ---- limits
+
+module _ (before limits : List ℕ) (n : ℕ) where
+  pub limit-number : n < length limits → n < loopLimit → limitAt (storedIn before limits) n ≡ getD limits n 0
+  unfolding limitAt
+  limit-number h below = ap (λ (m : ℕ). getD (storedIn before limits) m 0) (mod-eq-of-lt below) ∙ stored-at before limits n h
+
+  pub limits-next : (limit : ℕ) → n ≡ length limits → n < loopLimit →
+      paste (storedIn before limits) (n % loopLimit) (limit ∷ []) 1 ≡ storedIn before (limits ++ (limit ∷ []))
+  limits-next limit h below = stored-more before limits (limit ∷ []) (n % loopLimit) 1 (mod-eq-of-lt below ∙ h) refl

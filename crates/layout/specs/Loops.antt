@@ -1,0 +1,83 @@
+-- What the parameters make of each loop, as numbers: differences, facts and limits, and these read by position.
+use mathlib.Core.List.{List, [], _∷_}
+use mathlib.Core.Bool.{Bool, not}
+use Prim.Native.Nat.{ℕ, _+_, _*_, _/_, _%_, _^_}
+use lib.IntN.{ℤ, pos}
+use lib.Dec.{eqb}
+use lib.ListN.{getD}
+use Rattle.whole.specs.Integer.{floorRemainder}
+use Rattle.meaning.specs.Limits.{recordLimit, indexFactors}
+use Rattle.layout.specs.declared.facts.Fact.{Fact}
+
+-- each loop has an end, so that at most half of the records are loops
+abbrev pub loopLimit : ℕ
+loopLimit = recordLimit / 2
+
+-- an integer as a number of 64 bits, in two's complement
+unfoldable pub wordOf : ℤ → ℕ
+wordOf z = floorRemainder z (2 ^ 64)
+
+-- ---- differences: the stride's size, D where every counter is 0, and the pushes on D of the loops around the loop, outermost first
+
+abbrev pub differenceWidth : ℕ
+differenceWidth = 2 + indexFactors
+
+abbrev pub differencesLength : ℕ
+differencesLength = loopLimit * differenceWidth
+
+unfoldable pub differenceWords : ℕ → ℤ → List ℤ → List ℕ
+differenceWords stride base pushes =
+    stride ∷ wordOf base ∷ wordOf (getD pushes 0 (pos 0)) ∷ wordOf (getD pushes 1 (pos 0)) ∷ wordOf (getD pushes 2 (pos 0)) ∷ []
+
+-- where those of loop j begin
+abbrev pub differenceFrom : ℕ → ℕ
+differenceFrom j = j % loopLimit * differenceWidth
+
+unfoldable pub wordIn : List ℕ → ℕ → ℕ → ℕ
+wordIn differences j column = getD differences (differenceFrom j + column) 0
+
+module _ (differences : List ℕ) (j : ℕ) where
+  abbrev pub strideAt : ℕ
+  strideAt = wordIn differences j 0
+
+  abbrev pub baseAt : ℕ
+  baseAt = wordIn differences j 1
+
+  -- what a trip of the loop that has m loops around it adds to D
+  abbrev pub pushWordAt : ℕ → ℕ
+  pushWordAt m = wordIn differences j (2 + m)
+
+-- ---- facts
+
+abbrev pub factWidth : ℕ
+factWidth = 3
+
+abbrev pub factsLength : ℕ
+factsLength = loopLimit * factWidth
+
+unfoldable pub factNumbers : Fact → List ℕ
+factNumbers f = f .ceiling ∷ f .choice ∷ f .enough ∷ []
+
+abbrev pub factFrom : ℕ → ℕ
+factFrom j = j % loopLimit * factWidth
+
+unfoldable pub factIn : List ℕ → ℕ → ℕ → ℕ
+factIn facts j column = getD facts (factFrom j + column) 0
+
+module _ (facts : List ℕ) (j : ℕ) where
+  abbrev pub ceilingAt : ℕ
+  ceilingAt = factIn facts j 0
+
+  -- how many of the loops around the loop stand around the innermost choice around it
+  abbrev pub choiceDepthAt : ℕ
+  choiceDepthAt = factIn facts j 1
+
+  -- whether its smallest D is as large as closing a loop around it asks
+  abbrev pub enoughAt : Bool
+  enoughAt = not (eqb (factIn facts j 2) 0)
+
+-- ---- limits
+
+-- how many trips the loop visits at most where it is closed; 0 where it is walked
+unfoldable pub limitAt : List ℕ → ℕ → ℕ
+limitAt limits j = getD limits (j % loopLimit) 0

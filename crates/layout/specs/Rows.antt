@@ -1,0 +1,115 @@
+-- Rows: what the reader says of each record, as numbers, and the numbers read by position.
+use mathlib.Core.List.{List, [], _∷_}
+use Prim.Native.Nat.{ℕ, _+_, _*_, _-_, _%_, min}
+use lib.ListN.{getD}
+use Rattle.meaning.specs.Limits.{recordLimit, depthLimit, openLimit}
+use Rattle.meaning.specs.Record.{Kind, workKind, loopKind, endKind, choiceKind, nextArmKind, Record, workRecord, loopRecord, endRecord, choiceRecord, nextArmRecord, kind}
+use Rattle.layout.specs.declared.rows.Row.{Row}
+use Rattle.layout.specs.Loops.{loopLimit}
+
+-- what a record is for the stages
+pub data Role : Type 0 where
+  straightRole loopRole endRole choiceRole nextArmRole : Role
+
+unfoldable pub roleNumber : Role → ℕ
+roleNumber straightRole = 0
+roleNumber loopRole = 1
+roleNumber endRole = 2
+roleNumber choiceRole = 3
+roleNumber nextArmRole = 4
+
+-- the role of a kind's records
+unfoldable pub roleOfKind : Kind → Role
+roleOfKind workKind = straightRole
+roleOfKind loopKind = loopRole
+roleOfKind endKind = endRole
+roleOfKind choiceKind = choiceRole
+roleOfKind nextArmKind = nextArmRole
+
+unfoldable pub roleOf : Record → Role
+roleOf r = roleOfKind (kind r)
+
+-- the costs that a row has of a record: least and most of straight work, start and step of a loop
+unfoldable pub firstCost : Record → ℕ
+firstCost (workRecord least most) = least
+firstCost (loopRecord l) = l .start
+firstCost endRecord = 0
+firstCost choiceRecord = 0
+firstCost nextArmRecord = 0
+
+unfoldable pub secondCost : Record → ℕ
+secondCost (workRecord least most) = most
+secondCost (loopRecord l) = l .step
+secondCost endRecord = 0
+secondCost choiceRecord = 0
+secondCost nextArmRecord = 0
+
+-- ---- the numbers of a row
+
+abbrev pub rowWidth : ℕ
+rowWidth = 9
+
+abbrev pub rowsLength : ℕ
+rowsLength = recordLimit * rowWidth
+
+unfoldable pub rowNumbers : Row → List ℕ
+rowNumbers r = r .role ∷ r .first ∷ r .second ∷ r .end ∷ r .enclosing ∷ r .frame ∷ r .depth ∷ r .loops ∷ r .offset ∷ []
+
+-- where the row of the record with this number begins
+abbrev pub rowFrom : ℕ → ℕ
+rowFrom number = number % recordLimit * rowWidth
+
+-- one number of its row
+unfoldable pub numberIn : List ℕ → ℕ → ℕ → ℕ
+numberIn rows number column = getD rows (rowFrom number + column) 0
+
+-- ---- by name. What a remainder cuts off here stands in no sheet's plan: with it every list of numbers can be read.
+
+module _ (rows : List ℕ) (number : ℕ) where
+  abbrev pub roleAt : ℕ
+  roleAt = numberIn rows number 0
+
+  abbrev pub firstAt : ℕ
+  firstAt = numberIn rows number 1
+
+  abbrev pub secondAt : ℕ
+  secondAt = numberIn rows number 2
+
+  -- what entering a loop costs, where it makes so many trips
+  unfoldable pub entryCostAt : ℕ → ℕ
+  entryCostAt trips = firstAt
+
+  -- the number of the end of a loop or choice
+  abbrev pub endAt : ℕ
+  endAt = numberIn rows number 3 % recordLimit
+
+  -- what follows the end of a loop
+  abbrev pub afterEndAt : ℕ
+  afterEndAt = endAt + 1
+
+  -- the number of the record that it stands in, plus 1; 0 where it stands in none
+  abbrev pub enclosingAt : ℕ
+  enclosingAt = numberIn rows number 4
+
+  -- the loop or choice that an end ends, and that a next arm belongs to
+  abbrev pub openerAt : ℕ
+  openerAt = (enclosingAt - 1) % recordLimit
+
+  -- the frame of a loop or choice
+  abbrev pub frameAt : ℕ
+  frameAt = numberIn rows number 5 % openLimit
+
+  -- how many loops are open around it
+  abbrev pub openLoopsAt : ℕ
+  openLoopsAt = min (numberIn rows number 6) depthLimit
+
+  -- the same of a loop's record, around which there is room for one more
+  abbrev pub depthAt : ℕ
+  depthAt = numberIn rows number 6 % depthLimit
+
+  -- the number of a loop among the loops
+  abbrev pub loopAt : ℕ
+  loopAt = numberIn rows number 7 % loopLimit
+
+  abbrev pub offsetAt : ℕ
+  offsetAt = numberIn rows number 8

@@ -1,0 +1,190 @@
+// Rows: what the reader says of each record, nine numbers a record.
+ghost use mathlib.Core.Path.{_≡_};
+ghost use Prim.Native.Nat.{_<_};
+ghost use lib.Seq.{paste};
+ghost use Rattle.layout.specs.Rows.{rowWidth, rowFrom, rowNumbers, numberIn};
+ghost use Rattle.layout.specs.Rows.{roleAt, firstAt, secondAt, entryCostAt, endAt, afterEndAt, enclosingAt, openerAt, frameAt, openLoopsAt, depthAt, loopAt, offsetAt};
+use crate::MAX_LOOPS;
+use crate::position;
+use crate::put;
+use crate::wide;
+use form::MAX_DEPTH;
+use records::MAX_OPEN;
+use records::MAX_RECORDS;
+
+// What a record is for the stages: its role.
+pub const STRAIGHT: u16 = 0;
+
+pub const LOOP: u16 = 1;
+
+pub const END: u16 = 2;
+
+pub const CHOICE: u16 = 3;
+
+pub const NEXT_ARM: u16 = 4;
+
+// Of one record: its role; its costs, least and most of straight work or start and step of a loop; the number of its end; the number of
+// the record that it stands in, plus 1; how many records are open around it, and how many of these are loops; how many loops stand
+// before it; its offset in the sheet.
+pub struct Row {
+    pub role: u16,
+    pub first: u16,
+    pub second: u16,
+    pub end: u16,
+    pub enclosing: u16,
+    pub frame: u16,
+    pub depth: u16,
+    pub loops: u16,
+    pub offset: u16,
+}
+
+const ROW_WIDTH: usize = 9;
+
+const ROLE: usize = 0;
+
+const FIRST: usize = 1;
+
+const SECOND: usize = 2;
+
+const ENDING: usize = 3;
+
+const ENCLOSING: usize = 4;
+
+const FRAME: usize = 5;
+
+const DEPTH: usize = 6;
+
+const LOOPS: usize = 7;
+
+const OFFSET: usize = 8;
+
+pub const ROW_NUMBERS: usize = MAX_RECORDS * ROW_WIDTH;
+
+pub type Rows = [u16; ROW_NUMBERS];
+
+// One number of a record's row.
+fn column_at(rows: &Rows, number: usize, column: usize) -> u16
+    requires { ⌜ column < rowWidth ⌝ }
+    ensures { λ r. ⌜ r ≡ numberIn (now (rows .entry)) number column ⌝ }
+{
+    rows[number % MAX_RECORDS * ROW_WIDTH + column]
+}
+
+// Stores a record's row.
+pub fn put_row(rows: &mut Rows, number: usize, row: Row)
+    ensures { λ _. ⌜ now (rows .exit) ≡ paste (now (rows .entry)) (rowFrom number) (rowNumbers row) rowWidth ⌝ }
+{
+    let values = [
+        row.role,
+        row.first,
+        row.second,
+        row.end,
+        row.enclosing,
+        row.frame,
+        row.depth,
+        row.loops,
+        row.offset,
+    ];
+    put(rows, number % MAX_RECORDS * ROW_WIDTH, &values);
+}
+
+pub fn role_at(rows: &Rows, number: usize) -> u16
+    ensures { λ r. ⌜ r ≡ roleAt (now (rows .entry)) number ⌝ }
+{
+    column_at(rows, number, ROLE)
+}
+
+// The least of straight work.
+pub fn least_at(rows: &Rows, number: usize) -> u64
+    ensures { λ r. ⌜ r ≡ firstAt (now (rows .entry)) number ⌝ }
+{
+    wide(column_at(rows, number, FIRST))
+}
+
+// The most of straight work.
+pub fn most_at(rows: &Rows, number: usize) -> u64
+    ensures { λ r. ⌜ r ≡ secondAt (now (rows .entry)) number ⌝ }
+{
+    wide(column_at(rows, number, SECOND))
+}
+
+// What entering a loop costs, where it makes so many trips.
+pub fn entry_cost_at(rows: &Rows, number: usize, trips: u64) -> u64
+    ensures { λ r. ⌜ r ≡ entryCostAt (now (rows .entry)) number trips ⌝ }
+{
+    wide(column_at(rows, number, FIRST))
+}
+
+// The step of a loop.
+pub fn step_at(rows: &Rows, number: usize) -> u64
+    ensures { λ r. ⌜ r ≡ secondAt (now (rows .entry)) number ⌝ }
+{
+    wide(column_at(rows, number, SECOND))
+}
+
+// The number of the end of a loop or choice.
+pub fn end_at(rows: &Rows, number: usize) -> usize
+    ensures { λ r. ⌜ r ≡ endAt (now (rows .entry)) number ⌝ }
+{
+    position(column_at(rows, number, ENDING)) % MAX_RECORDS
+}
+
+// What follows the end of a loop.
+pub fn after_end_at(rows: &Rows, number: usize) -> usize
+    ensures { λ r. ⌜ r ≡ afterEndAt (now (rows .entry)) number ⌝ }
+{
+    end_at(rows, number) + 1
+}
+
+// The number of the record that a record stands in, plus 1; 0 where it stands in none.
+pub fn enclosing_at(rows: &Rows, number: usize) -> u16
+    ensures { λ r. ⌜ r ≡ enclosingAt (now (rows .entry)) number ⌝ }
+{
+    column_at(rows, number, ENCLOSING)
+}
+
+// The loop or choice that an end ends, and that a next arm belongs to.
+pub fn opener_at(rows: &Rows, number: usize) -> usize
+    ensures { λ r. ⌜ r ≡ openerAt (now (rows .entry)) number ⌝ }
+{
+    let enclosing = position(enclosing_at(rows, number));
+    if enclosing == 0 {
+        return 0;
+    }
+    (enclosing - 1) % MAX_RECORDS
+}
+
+// The frame of a loop or choice: one for each record open around it.
+pub fn frame_at(rows: &Rows, number: usize) -> usize
+    ensures { λ r. ⌜ r ≡ frameAt (now (rows .entry)) number ⌝ }
+{
+    position(column_at(rows, number, FRAME)) % MAX_OPEN
+}
+
+// How many loops are open around a record.
+pub fn open_loops_at(rows: &Rows, number: usize) -> usize
+    ensures { λ r. ⌜ r ≡ openLoopsAt (now (rows .entry)) number ⌝ }
+{
+    let depth = position(column_at(rows, number, DEPTH));
+    if depth < MAX_DEPTH { depth } else { MAX_DEPTH }
+}
+
+// How many loops are open around a loop.
+pub fn depth_at(rows: &Rows, number: usize) -> usize
+    ensures { λ r. ⌜ r ≡ depthAt (now (rows .entry)) number ⌝ }
+{
+    position(column_at(rows, number, DEPTH)) % MAX_DEPTH
+}
+
+// The number of a loop among the loops.
+pub fn loop_at(rows: &Rows, number: usize) -> usize
+    ensures { λ r. ⌜ r ≡ loopAt (now (rows .entry)) number ⌝ }
+{
+    position(column_at(rows, number, LOOPS)) % MAX_LOOPS
+}
+
+pub fn offset_at(rows: &Rows, number: usize) -> usize
+    ensures { λ r. ⌜ r ≡ offsetAt (now (rows .entry)) number ⌝ }
+{
+    position(column_at(rows, number, OFFSET))
+}

@@ -1,0 +1,42 @@
+-- The invariant: the open records passed are loops, so that the choice looked for is still ahead. The measure is the number whose digits are left.
+use native.Mathlib.Omega.{arith}
+use Rattle.loops.proofs.Choices.{Leaving, leaving-start, leaving-next, leaving-none, leaving-done}
+use Rattle.loops.proofs.forms.choice_depth.Statement.{statement}
+use Rattle.loops.proofs.forms.choice_depth.Tie as tie
+
+abbrev Inv-loop : tie.InvT-loop
+Inv-loop depth₀ loops₀ depth loops = Leaving depth₀ loops₀ depth loops
+
+abbrev μ-loop : tie.MeasureT-loop
+μ-loop depth₀ loops₀ depth loops = loops
+
+loop-holds : tie.Need-loop-holds Inv-loop μ-loop
+loop-holds c = leaving-start (c .args .here .depth) (c .args .here .loops)
+
+returns : tie.Need-returns Inv-loop μ-loop
+returns c os e =
+    let here = c .before .before .before .args .here in
+    let at = c .before .before .loop in
+    leaving-none here (at .depth) (at .loops) (at .inv) os e (c .before .loop-test .taken) (c .if1 .taken)
+
+sub-depth : tie.Need-sub-depth Inv-loop μ-loop
+sub-depth c = omega arith
+
+loop-less : tie.Need-loop-less Inv-loop μ-loop
+loop-less c = omega arith
+
+loop-again : tie.Need-loop-again Inv-loop μ-loop
+loop-again c =
+    let here = c .before .before .before .args .here in
+    let at = c .before .before .loop in
+    leaving-next (here .depth) (here .loops) (at .depth) (at .loops) (at .inv) (c .before .loop-test .taken)
+
+returns-2 : tie.Need-returns-2 Inv-loop μ-loop
+returns-2 c os e =
+    let at = c .before .loop in
+    leaving-done (c .before .before .args .here) (at .depth) (at .loops) (at .inv) os e (c .loop-test .left)
+
+pub choice-depth-spec : {M : Type 1} → statement M
+choice-depth-spec =
+    tie.close
+    (tie.spec Inv-loop μ-loop loop-holds returns sub-depth loop-less loop-again returns-2)

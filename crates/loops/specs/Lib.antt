@@ -1,0 +1,5 @@
+pub mod Enclosing
+pub mod Facts
+pub mod Reckoned
+pub mod Forms
+pub mod Known

@@ -1,0 +1,85 @@
+-- What the rows of a sheet's records say where they are read by a record's number.
+use mathlib.Core.List.{_++_, List, [], _∷_}
+use mathlib.Core.Path.{ap, refl, _∙_, _≡_}
+use Prim.Native.Nat.{_%_, _<_, min, suc, ℕ, _≤_}
+use native.Mathlib.Omega.{arith}
+use native.Mathlib.Nat.{mod-eq-of-lt}
+use lib.ListN.{getD, length, length-append}
+use Rattle.meaning.specs.Record.{Loop, Record, loopDepth, loopRecord, sheetLength}
+use Rattle.meaning.specs.Limits.{depthLimit, openLimit, recordLimit}
+use Rattle.meaning.proofs.Accepted.{InPlace}
+use Rattle.layout.specs.declared.rows.Row.{Row}
+use Rattle.layout.specs.Rows.{firstCost, numberIn, roleNumber, roleOf, rowNumbers, rowWidth, secondCost}
+use Rattle.layout.specs.Rows.{depthAt, enclosingAt, endAt, firstAt, frameAt, loopAt, offsetAt, openLoopsAt, roleAt, secondAt}
+use Rattle.layout.specs.Loops.{loopLimit}
+use Rattle.layout.proofs.Reading.{blankRow, row-number}
+use Rattle.nest.specs.Rows.{endNumber, innermost, rowAt, rowsOf, rowsStored, sheetStart}
+use Rattle.nest.specs.Walk.{loopsAfter}
+use Rattle.nest.specs.Known.{RowsHeld}
+use Rattle.nest.proofs.Walks.{loops-append, loops-grow, loopsThrough, numbersThrough, opensThrough, positionAfter}
+use Rattle.nest.proofs.Places.{loops-few}
+use Rattle.nest.proofs.RowsOf.{row-at, rows-length}
+
+module _ {rows : List ℕ} (xs : List Record) (r : Record) (ys : List Record) (held : RowsHeld rows (xs ++ (r ∷ ys)))
+    (few : length (xs ++ (r ∷ ys)) ≤ recordLimit) where
+  reads : (column : ℕ) → column < rowWidth → numberIn rows (length xs) column ≡ getD (rowNumbers (rowAt (positionAfter xs) r ys)) column 0
+  unfolding rowsStored
+  reads column c =
+      let size = length-append xs (r ∷ ys) in
+      let long : length (rowsOf (xs ++ (r ∷ ys))) ≡ length (xs ++ (r ∷ ys)) = (unfold rowsOf in rows-length (xs ++ (r ∷ ys)) sheetStart) in
+      ap (λ (l : List ℕ). numberIn l (length xs) column) (held .are)
+      ∙ row-number (held .before) (rowsOf (xs ++ (r ∷ ys))) (length xs) column (omega arith) (omega arith) c
+      ∙ ap (λ (x : Row). getD (rowNumbers x) column 0) (row-at xs r ys blankRow)
+
+  pub role-reads : roleAt rows (length xs) ≡ roleNumber (roleOf r)
+  unfolding rowNumbers rowAt
+  role-reads = reads 0 (omega arith)
+
+  pub first-reads : firstAt rows (length xs) ≡ firstCost r
+  unfolding rowNumbers rowAt
+  first-reads = reads 1 (omega arith)
+
+  pub second-reads : secondAt rows (length xs) ≡ secondCost r
+  unfolding rowNumbers rowAt
+  second-reads = reads 2 (omega arith)
+
+  pub end-reads : endAt rows (length xs) ≡ endNumber (length xs) r ys % recordLimit
+  unfolding rowNumbers rowAt
+  end-reads = ap (λ (n : ℕ). n % recordLimit) (reads 3 (omega arith))
+
+  pub enclosing-reads : enclosingAt rows (length xs) ≡ innermost (numbersThrough 0 [] xs)
+  unfolding rowNumbers rowAt
+  enclosing-reads = reads 4 (omega arith)
+
+  pub frame-reads : frameAt rows (length xs) ≡ length (opensThrough [] xs) % openLimit
+  unfolding rowNumbers rowAt
+  frame-reads = ap (λ (n : ℕ). n % openLimit) (reads 5 (omega arith))
+
+  pub open-loops-reads : openLoopsAt rows (length xs) ≡ min (loopDepth (opensThrough [] xs)) depthLimit
+  unfolding rowNumbers rowAt
+  open-loops-reads = ap (λ (n : ℕ). min n depthLimit) (reads 6 (omega arith))
+
+  pub depth-reads : depthAt rows (length xs) ≡ loopDepth (opensThrough [] xs) % depthLimit
+  unfolding rowNumbers rowAt
+  depth-reads = ap (λ (n : ℕ). n % depthLimit) (reads 6 (omega arith))
+
+  pub offset-reads : offsetAt rows (length xs) ≡ sheetLength xs
+  unfolding rowNumbers rowAt
+  offset-reads = reads 8 (omega arith)
+
+  loops-read : loopAt rows (length xs) ≡ loopsThrough 0 xs % loopLimit
+  unfolding rowNumbers rowAt
+  loops-read = ap (λ (n : ℕ). n % loopLimit) (reads 7 (omega arith))
+
+-- a loop's number among the loops of a sheet in place
+pub loop-number-small : (xs : List Record) (l : Loop) (ys : List Record) → InPlace [] (xs ++ (loopRecord l ∷ ys)) →
+    length (xs ++ (loopRecord l ∷ ys)) ≤ recordLimit → loopsThrough 0 xs < loopLimit
+loop-number-small xs l ys place few =
+    let fewer = loops-few (xs ++ (loopRecord l ∷ ys)) [] 0 place in
+    let split = loops-append xs (loopRecord l ∷ ys) 0 in
+    let own : loopsThrough (loopsThrough 0 xs) (loopRecord l ∷ ys) ≡ loopsThrough (suc (loopsThrough 0 xs)) ys = (unfold loopsThrough loopsAfter in refl) in
+    omega (arith, loops-grow ys (suc (loopsThrough 0 xs)))
+
+pub loop-reads : {rows : List ℕ} (xs : List Record) (l : Loop) (ys : List Record) → RowsHeld rows (xs ++ (loopRecord l ∷ ys)) →
+    InPlace [] (xs ++ (loopRecord l ∷ ys)) → length (xs ++ (loopRecord l ∷ ys)) ≤ recordLimit → loopAt rows (length xs) ≡ loopsThrough 0 xs
+loop-reads xs l ys held place few = loops-read xs (loopRecord l) ys held few ∙ mod-eq-of-lt (loop-number-small xs l ys place few)

@@ -1,0 +1,30 @@
+-- Each of the four kinds that is tested has its own role; any other byte is straight.
+use Rattle.meaning.specs.Record.{loopKind, endKind, choiceKind, nextArmKind, kindNumber}
+use Rattle.layout.specs.Rows.{roleNumber, roleOfKind}
+use Rattle.nest.proofs.Roles.{role-by, role-other}
+use Rattle.nest.proofs.role_of.Statement.{statement}
+use Rattle.nest.proofs.role_of.Tie as tie
+
+returns : tie.Need-returns
+unfolding kindNumber roleNumber roleOfKind
+returns c = role-by loopKind (c .if1 .taken)
+
+returns-2 : tie.Need-returns-2
+unfolding kindNumber roleNumber roleOfKind
+returns-2 c = role-by endKind (c .if2 .taken)
+
+returns-3 : tie.Need-returns-3
+unfolding kindNumber roleNumber roleOfKind
+returns-3 c = role-by choiceKind (c .if3 .taken)
+
+returns-4 : tie.Need-returns-4
+unfolding kindNumber roleNumber roleOfKind
+returns-4 c = role-by nextArmKind (c .if4 .taken)
+
+returns-5 : tie.Need-returns-5
+returns-5 c =
+    role-other (c .before .before .before .before .args .kind) (c .before .before .before .if1 .left) (c .before .before .if2 .left) (c .before .if3 .left)
+    (c .if4 .left)
+
+pub role-of-spec : {M : Type 1} → statement M
+role-of-spec = tie.close (tie.spec returns returns-2 returns-3 returns-4 returns-5)

@@ -1,4 +1,0 @@
-pub mod CellLaws
-pub mod FrameLaws
-pub mod SumLaws
-pub mod TripLaws

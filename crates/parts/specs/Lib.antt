@@ -1,4 +1,0 @@
-pub mod PlanNumbers
-pub mod Sums
-pub mod Frames
-pub mod Trips

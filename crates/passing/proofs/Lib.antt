@@ -1,0 +1,3 @@
+pub mod StraightLaws
+pub mod ChoiceLaws
+pub mod LoopLaws

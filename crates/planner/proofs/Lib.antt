@@ -1,0 +1,12 @@
+pub mod Parameters
+pub mod Preventing
+pub mod Limits
+pub mod PlansOf
+pub mod AtLoop
+pub mod LimitWalk
+pub mod Reporting
+pub mod PlanReports
+pub mod Planning
+pub mod PlanRead
+pub mod Planned
+pub mod Examples

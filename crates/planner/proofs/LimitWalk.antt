@@ -1,0 +1,142 @@
+-- The walk that stores the limits: those of the loops passed.
+use mathlib.Core.List.{_++_, List, [], append-nil, map-append, _∷_}
+use mathlib.Core.Option.{Option, none, some}
+use mathlib.Core.Path.{ap, ap₂, refl, subst, sym, _∙_, _≡_}
+use Prim.Native.Nat.{_%_, _+_, _-_, _<_, _^_, suc, zero, ℕ, _≤_}
+use native.Mathlib.Numerals.{add-one}
+use native.Mathlib.Omega.{arith}
+use native.Mathlib.Nat.{mod-eq-of-lt}
+use lib.ListN.{drop, getD, length, length-map, take}
+use lib.Seq.{length-take-le, paste, take-all, take-suc}
+use lib.IntN.{ℤ}
+use Rattle.meaning.specs.Record.{endRecord, loopRecord, Record, Open, Loop}
+use Rattle.meaning.proofs.Accepted.{InPlace}
+use Rattle.layout.specs.Rows.{depthAt, endAt, loopAt, roleAt, roleNumber, roleOf}
+use Rattle.layout.specs.Loops.{loopLimit}
+use Rattle.layout.specs.Numbers.{storedIn}
+use Rattle.layout.proofs.Reading.{limits-next}
+use Rattle.layout.proofs.Storing.{stored-none}
+use Rattle.nest.specs.Walk.{recordsInside}
+use Rattle.sheet.specs.Sheets.{recordsOf}
+use Rattle.sheet.proofs.SheetRecords.{around, records-in-place}
+use Rattle.nest.proofs.Walks.{opensThrough}
+use Rattle.loops.specs.Facts.{factsAt, loopFacts, loopsIn, sheetFacts, LoopFacts}
+use Rattle.loops.proofs.AtRecord.{fact-at, loop-there, no-facts, number-is, role-is}
+use Rattle.loops.proofs.LoopsRead.{loops-append-in}
+use Rattle.loops.proofs.Enclosings.{loopsAround}
+use Rattle.planner.specs.Known.{KnownInside, Surveyed}
+use Rattle.planner.specs.Closing.{limitAmong, planAt, LoopPlan}
+use Rattle.planner.specs.Plan.{limitsStored, sheetPlans}
+use Rattle.planner.proofs.PlansOf.{definedPlan, limit-below, loop-plan, loops-before-plans, plan-of-record, plans-length}
+use Rattle.planner.proofs.AtLoop.{depth-there, end-there, known-inside}
+
+limits-size : (plans : List LoopPlan) → length (limitsStored plans) ≡ length plans
+unfolding limitsStored
+limits-size plans = length-map plans (λ p. p .limit)
+
+limits-more : (plans : List LoopPlan) (p : LoopPlan) → limitsStored plans ++ (p .limit ∷ []) ≡ limitsStored (plans ++ (p ∷ []))
+unfolding limitsStored
+limits-more plans p = sym (map-append (λ q. q .limit) plans (p ∷ []))
+
+pub record Limited (count : ℕ) (rows differences facts before limits : List ℕ) (n : ℕ) : Type 0 where
+  pub so-far : n ≤ count
+  pub storedSoFar : (sheet : List ℕ) (ps : List ℤ) → Surveyed sheet ps count rows differences facts →
+      limits ≡ storedIn before (limitsStored (loopsIn (take n (sheetPlans ps (recordsOf sheet)))))
+
+pub limited-start : (count : ℕ) (rows differences facts limits : List ℕ) → Limited count rows differences facts limits limits 0
+unfolding loopsIn limitsStored
+limited-start count rows differences facts limits = record { so-far = omega arith; storedSoFar = λ sheet ps g. sym (stored-none limits) }
+
+module _ {count : ℕ} {rows differences facts before limits : List ℕ} {n : ℕ} (g : Limited count rows differences facts before limits n) where
+  pub limited-done : count ≤ n → (sheet : List ℕ) (ps : List ℤ) → Surveyed sheet ps count rows differences facts →
+      limits ≡ storedIn before (limitsStored (loopsIn (sheetPlans ps (recordsOf sheet))))
+  limited-done h sheet ps s =
+      g .storedSoFar sheet ps s
+      ∙ ap (λ (l : List (Option LoopPlan)). storedIn before (limitsStored (loopsIn l)))
+      (take-all n (sheetPlans ps (recordsOf sheet)) (omega (arith, s .all, plans-length ps (recordsOf sheet))))
+
+  module _ (more : n < count) {role : ℕ} (roleIs : role ≡ roleAt rows n) where
+    module _ (sheet : List ℕ) (ps : List ℤ) (s : Surveyed sheet ps count rows differences facts) where
+      abbrev rs : List Record
+      rs = recordsOf sheet
+
+      here : n < length rs
+      here = omega (arith, s .all)
+
+      abbrev this : Record
+      this = getD (recordsOf sheet) n endRecord
+
+      role-there : role ≡ roleNumber (roleOf this)
+      role-there = roleIs ∙ role-is sheet ps n here (s .rowsAre)
+
+      abbrev plans : List (Option LoopPlan)
+      plans = sheetPlans ps (recordsOf sheet)
+
+      taken : take (n + 1) plans ≡ take n plans ++ (getD plans n none ∷ [])
+      taken = ap (λ (m : ℕ). take m plans) (add-one n) ∙ take-suc plans n none (omega (arith, here, plans-length ps rs))
+
+      one-more : (o : Option LoopPlan) → getD plans n none ≡ o → loopsIn (take (n + 1) plans) ≡ loopsIn (take n plans) ++ loopsIn (o ∷ [])
+      one-more o e = ap loopsIn (taken ∙ ap (λ (x : Option LoopPlan). take n plans ++ (x ∷ [])) e) ∙ loops-append-in (take n plans) (o ∷ [])
+
+    pub limited-skip : (role ≡ 1 → ⊥) → Limited count rows differences facts before limits (n + 1)
+    limited-skip other = record {
+      so-far = omega arith;
+      storedSoFar = λ sheet ps s.
+          let os : List Open = opensThrough [] (take n (recordsOf sheet)) in
+          let none-here = fact-at sheet ps n (here sheet ps s)
+          ∙ no-facts ps os (loopsAround ps (take n (recordsOf sheet))) (this sheet ps s) (λ e. other (role-there sheet ps s ∙ e)) in
+          let no-plan : getD (plans sheet ps s) n none ≡ none =
+          plan-of-record ps (recordsOf sheet) n (here sheet ps s)
+          ∙ ap (λ (f : Option LoopFacts). planAt f (take (recordsInside zero (drop (suc n) (recordsOf sheet))) (drop (suc n) (sheetFacts ps (recordsOf sheet))))) none-here
+          ∙ (unfold planAt in refl) in
+          g .storedSoFar sheet ps s
+          ∙ ap (λ (l : List LoopPlan). storedIn before (limitsStored l))
+          (sym (one-more sheet ps s none no-plan ∙ (unfold loopsIn in append-nil (loopsIn (take n (plans sheet ps s))))));
+    }
+
+    pub limited-next : role ≡ 1 → {number limit stored : ℕ} → number ≡ loopAt rows n →
+        ((fs : List (Option LoopFacts)) → KnownInside rows differences facts n fs →
+        limit ≡ limitAmong (depthAt rows n) (take (endAt rows n - (n + 1)) (drop (n + 1) fs))) → stored ≡ limit % 2 ^ 16 →
+        {limits2 : List ℕ} → limits2 ≡ paste limits (number % loopLimit) (stored ∷ []) 1 → Limited count rows differences facts before limits2 (n + 1)
+    limited-next one {number} {limit} {stored} numberIs limitIs storedIs {limits2} put = record {
+      so-far = omega arith;
+      storedSoFar = λ sheet ps s.
+          let rs : List Record = recordsOf sheet in
+          let fs : List (Option LoopFacts) = sheetFacts ps (recordsOf sheet) in
+          let there : n < length rs = here sheet ps s in
+          let found = loop-there (this sheet ps s) (sym (role-there sheet ps s) ∙ one) in
+          let l : Loop = found .0 in
+          let xs : List Record = take n rs in
+          let ys : List Record = drop (suc n) rs in
+          let os : List Open = opensThrough [] xs in
+          let size : length xs ≡ n = length-take-le n rs (omega (arith, there)) in
+          let split : rs ≡ xs ++ (loopRecord l ∷ ys) = around sheet n there ∙ ap (λ (r : Record). xs ++ (r ∷ ys)) (found .1) in
+          let place : InPlace [] (xs ++ (loopRecord l ∷ ys)) = subst (InPlace []) split (records-in-place sheet) in
+          let fact : LoopFacts = loopFacts ps os (loopsAround ps xs) l in
+          let is : getD fs n none ≡ some fact = fact-at sheet ps n there ∙ ap (factsAt ps os (loopsAround ps xs)) (found .1) ∙ (unfold factsAt in refl) in
+          let inner : ℕ = recordsInside zero ys in
+          let end : endAt rows n - (n + 1) ≡ inner = omega (arith, end-there s n there l (found .1)) in
+          let depth : depthAt rows n ≡ fact .depth = depth-there s n there l (found .1) ∙ (unfold loopFacts in refl) in
+          let value : limit ≡ limitAmong (fact .depth) (take inner (drop (suc n) fs)) =
+          limitIs fs (known-inside s n there l (found .1)) ∙ ap₂ (λ (d m : ℕ). limitAmong d (take m (drop (n + 1) fs))) depth end
+          ∙ ap (λ (m : ℕ). limitAmong (fact .depth) (take inner (drop m fs))) (add-one n) in
+          let plan : LoopPlan = record { facts = fact; limit = limit } in
+          let whole : planAt (some fact) (take inner (drop (suc n) fs)) ≡ some (record { facts = fact; limit = limitAmong (fact .depth) (take inner (drop (suc n) fs)) }) =
+          (unfold planAt in refl) in
+          let planned : getD (plans sheet ps s) n none ≡ some plan =
+          plan-of-record ps rs n there ∙ ap (λ (f : Option LoopFacts). planAt f (take inner (drop (suc n) fs))) is
+          ∙ whole ∙ ap {B = Option LoopPlan} (λ m. some (record { facts = fact; limit = m })) (sym value) in
+          let defined : some plan ≡ some (definedPlan ps l ys os (loopsAround ps xs)) =
+          sym planned ∙ ap₂ (λ (r : List Record) (m : ℕ). getD (sheetPlans ps r) m none) split (sym size) ∙ loop-plan ps xs l ys place in
+          let same : plan ≡ definedPlan ps l ys os (loopsAround ps xs) = cc in
+          let small : limit < 2 ^ 16 = omega (arith, ap (λ (p : LoopPlan). p .limit) same, limit-below ps xs l ys place) in
+          let place-is = number-is sheet ps n there (s .rowsAre) l (found .1) in
+          let passed : List LoopPlan = loopsIn (take n (plans sheet ps s)) in
+          let at : number ≡ length (limitsStored passed) =
+          numberIs ∙ place-is .0 ∙ sym (loops-before-plans ps rs n) ∙ sym (limits-size passed) in
+          let kept : stored ∷ [] ≡ limit ∷ [] = ap (λ (m : ℕ). m ∷ []) (storedIs ∙ mod-eq-of-lt small) in
+          put ∙ ap₂ (λ (b v : List ℕ). paste b (number % loopLimit) v 1) (g .storedSoFar sheet ps s) kept
+          ∙ limits-next before (limitsStored passed) number limit at (omega (arith, numberIs, place-is .1))
+          ∙ ap (storedIn before)
+          (limits-more passed plan ∙ ap limitsStored (sym (one-more sheet ps s (some plan) planned ∙ (unfold loopsIn in refl))));
+    }

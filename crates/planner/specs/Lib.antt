@@ -1,0 +1,5 @@
+pub mod Closing
+pub mod Plan
+pub mod Known
+pub mod Answers
+pub mod Reports

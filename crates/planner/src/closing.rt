@@ -1,0 +1,132 @@
+// Closed or walked: each loop against the loops inside it.
+ghost use mathlib.Core.Path.{_≡_};
+ghost use mathlib.Core.List.{List};
+ghost use mathlib.Core.Option.{Option};
+ghost use Prim.Native.Nat.{ℕ, _+_, _-_, _^_, _<_, max};
+ghost use lib.IntN.{ℤ, natAbs};
+ghost use lib.ListN.{take, drop};
+ghost use Rattle.layout.specs.Numbers.{storedIn};
+ghost use Rattle.layout.specs.Rows.{endAt, depthAt};
+ghost use Rattle.layout.specs.Loops.{wordOf};
+ghost use Rattle.sheet.specs.Sheets.{recordsOf};
+ghost use Rattle.loops.specs.Facts.{LoopFacts};
+ghost use Rattle.planner.specs.Closing as C;
+ghost use Rattle.planner.specs.Closing.{someUneven, limitAmong};
+ghost use Rattle.loops.specs.Facts.{loopsIn};
+ghost use Rattle.planner.specs.Plan.{limitsStored, sheetPlans};
+ghost use Rattle.planner.specs.Known.{KnownFacts, KnownInside, Surveyed};
+use form::packed::INDEX_FACTORS;
+use layout::differences::Differences;
+use layout::differences::NEGATIVE;
+use layout::differences::push_at;
+use layout::differences::stride_at;
+use layout::facts::Facts;
+use layout::facts::choice_depth_at;
+use layout::facts::enough_at;
+use layout::limits::Limits;
+use layout::limits::put_limit;
+use layout::narrow;
+use layout::rows::LOOP;
+use layout::rows::Rows;
+use layout::rows::depth_at;
+use layout::rows::end_at;
+use layout::rows::loop_at;
+use layout::rows::role_at;
+
+// How many loops can stand around a loop.
+const MAX_AROUND: usize = INDEX_FACTORS;
+
+// The size of the integer that a word stands for.
+fn size_of(word: u64) -> u64
+    ensures { λ r. ⌜ ((z : ℤ) → natAbs z < 2 ^ 63 → word ≡ wordOf z → r ≡ natAbs z) ⌝ }
+{
+    if word < NEGATIVE {
+        return word;
+    }
+    u64::MAX - word + 1
+}
+
+fn larger(a: usize, b: usize) -> usize
+    ensures { λ r. ⌜ r ≡ max a b ⌝ }
+{
+    if a < b { b } else { a }
+}
+
+// Whether the stride of loop K does not divide the push of a loop M around it, from the one with `depth` loops around it inward.
+fn uneven(differences: &Differences, loop_number: usize, depth: usize) -> bool
+    ensures { λ r. ⌜ ((facts : List ℕ) (f : LoopFacts) → KnownFacts (now (differences .entry)) facts «loop_number» f → r ≡ someUneven (f .stride) (drop depth (f .pushes))) ⌝ }
+{
+    let stride = stride_at(differences, loop_number);
+    if stride == 0 {
+        return false;
+    }
+    let mut m = depth;
+    while m < MAX_AROUND {
+        if size_of(push_at(differences, loop_number, m)) % stride != 0 {
+            return true;
+        }
+        m += 1;
+    }
+    false
+}
+
+// Whether loop K keeps a loop with `depth` loops around it from being closed.
+fn prevents(differences: &Differences, facts: &Facts, loop_number: usize, depth: usize) -> bool
+    ensures { λ r. ⌜ ((f : LoopFacts) → KnownFacts (now (differences .entry)) (now (facts .entry)) «loop_number» f → r ≡ C.prevents depth f) ⌝ }
+{
+    if depth < choice_depth_at(facts, loop_number) {
+        return true;
+    }
+    if enough_at(facts, loop_number) {
+        return uneven(differences, loop_number, depth);
+    }
+    true
+}
+
+// How many trips a loop visits at most where it is closed; 0 where it is walked.
+fn limit(rows: &Rows, differences: &Differences, facts: &Facts, number: usize) -> usize
+    requires { ⌜ number < 2 ^ 16 ⌝ }
+    ensures { λ r. ⌜ ((fs : List (Option LoopFacts)) → KnownInside (now (rows .entry)) (now (differences .entry)) (now (facts .entry)) number fs →
+        r ≡ limitAmong (depthAt (now (rows .entry)) number) (take (endAt (now (rows .entry)) number - (number + 1)) (drop (number + 1) fs))) ⌝ }
+{
+    let depth = depth_at(rows, number);
+    let end = end_at(rows, number);
+    let mut deepest = depth;
+    let mut i = number + 1;
+    while i < end {
+        if role_at(rows, i) != LOOP {
+            i += 1;
+            continue;
+        }
+        if prevents(differences, facts, loop_at(rows, i), depth) {
+            return 0;
+        }
+        deepest = larger(deepest, depth_at(rows, i));
+        i += 1;
+    }
+    deepest - depth + 1
+}
+
+// Stores the limits of all loops.
+pub(crate) fn put_limits(
+    count: usize,
+    rows: &Rows,
+    differences: &Differences,
+    facts: &Facts,
+    limits: &mut Limits,
+)
+    requires { ⌜ count < 2 ^ 16 ⌝ }
+    ensures { λ _. ⌜ ((sheet : List ℕ) (parameters : List ℤ) → Surveyed sheet parameters count (now (rows .entry)) (now (differences .entry)) (now (facts .entry)) →
+        now (limits .exit) ≡ storedIn (now (limits .entry)) (limitsStored (loopsIn (sheetPlans parameters (recordsOf sheet))))) ⌝ }
+{
+    let mut number: usize = 0;
+    while number < count {
+        if role_at(rows, number) != LOOP {
+            number += 1;
+            continue;
+        }
+        let n = limit(rows, differences, facts, number);
+        put_limit(limits, loop_at(rows, number), narrow(n));
+        number += 1;
+    }
+}

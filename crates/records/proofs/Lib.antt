@@ -1,0 +1,3 @@
+pub mod Tests
+pub mod ByKind
+pub mod Ranges

@@ -1,0 +1,126 @@
+// The loop kind: its fields, and their ranges and the largest ceiling as named constants.
+ghost use mathlib.Core.Path.{_≡_};
+ghost use mathlib.Core.List.{List, [], _∷_};
+ghost use mathlib.Core.Bool.{_||_};
+ghost use Prim.Native.Nat.{_+_, _<_, _^_};
+ghost use lib.ListN.{drop};
+ghost use Rattle.meaning.specs.Number.{signed8};
+ghost use Rattle.meaning.specs.Form.{isZero, allZero, formAt};
+ghost use Rattle.meaning.specs.Record.{loopKind, decodeRecord, Open, loopDepth, fieldsInRange};
+ghost use Rattle.meaning.specs.Record as M;
+ghost use Rattle.form.specs.Packed.{formOf};
+ghost use Rattle.records.specs.View.{blankLoop, loopOf};
+use encoding::number::byte_at;
+use encoding::number::signed8_at;
+use encoding::number::signed16_at;
+use encoding::number::unsigned16_at;
+use form::packed::PackedForm;
+
+pub struct Loop {
+    pub start: u16,
+    pub step: u16,
+    pub stride: u16,
+    pub lower: PackedForm,
+    pub upper: PackedForm,
+}
+
+// Where the two forms stand in a body, and the factors of their indexes.
+const LOWER: usize = 6;
+
+const UPPER: usize = 15;
+
+const LOWER_FACTORS: usize = LOWER + 2;
+
+const UPPER_FACTORS: usize = UPPER + 2;
+
+// The form in the nine bytes from an offset of a loop's body.
+fn form_at(body: &[u8], at: usize) -> PackedForm
+    requires { ⌜ at + 8 < 2 ^ 64 ⌝ }
+    ensures { λ r. ⌜ formOf r ≡ formAt (now (body .entry)) at ⌝ }
+{
+    let constant = signed16_at(body, at);
+    let i1 = signed8_at(body, at + 2);
+    let i2 = signed8_at(body, at + 3);
+    let i3 = signed8_at(body, at + 4);
+    let p1 = signed8_at(body, at + 5);
+    let p2 = signed8_at(body, at + 6);
+    let p3 = signed8_at(body, at + 7);
+    let p4 = signed8_at(body, at + 8);
+    PackedForm {
+        constant: constant,
+        index: [i1, i2, i3],
+        parameter: [p1, p2, p3, p4],
+    }
+}
+
+// Whether a factor is one of an enclosing loop, or 0.
+fn factor_allowed(body: &[u8], at: usize, enclosing: bool) -> bool
+    ensures { λ r. ⌜ r ≡ enclosing || isZero (signed8 (now (body .entry)) at) ⌝ }
+{
+    enclosing || byte_at(body, at) == 0
+}
+
+// Whether the factors of depths that do not enclose the loop are 0: three bytes from an offset of its body.
+fn factors_enclosed(body: &[u8], at: usize, depth: usize) -> bool
+    requires { ⌜ at + 2 < 2 ^ 64 ⌝ }
+    ensures { λ r. ⌜ r ≡ allZero (drop depth
+        (signed8 (now (body .entry)) at ∷ signed8 (now (body .entry)) (at + 1) ∷ signed8 (now (body .entry)) (at + 2) ∷ [])) ⌝ }
+{
+    factor_allowed(body, at, 0 < depth)
+        && (factor_allowed(body, at + 1, 1 < depth) && factor_allowed(body, at + 2, 2 < depth))
+}
+
+impl Loop {
+    pub const MAX_COST: u16 = 4095;
+
+    pub const MIN_STRIDE: u16 = 1;
+
+    pub const MAX_STRIDE: u16 = 1000;
+
+    pub const MAX_CEILING: u64 = 2048;
+
+    pub const BODY_LENGTH: usize = 24;
+
+    pub fn blank() -> Loop
+        ensures { λ r. ⌜ r ≡ blankLoop ⌝ }
+    {
+        let form = PackedForm::blank();
+        Loop {
+            start: 0,
+            step: 0,
+            stride: 0,
+            lower: form,
+            upper: form,
+        }
+    }
+
+    pub fn decode(body: &[u8]) -> Loop
+        ensures { λ r. ⌜ M.loopRecord (loopOf r) ≡ decodeRecord loopKind (now (body .entry)) ⌝ }
+    {
+        let lower = form_at(body, LOWER);
+        let upper = form_at(body, UPPER);
+        Loop {
+            start: unsigned16_at(body, 0),
+            step: unsigned16_at(body, 2),
+            stride: unsigned16_at(body, 4),
+            lower: lower,
+            upper: upper,
+        }
+    }
+
+    // 3: whether the fields in a body are in their ranges, `depth` loops being around it.
+    pub fn in_range(body: &[u8], depth: usize) -> bool
+        ensures { λ r. ⌜ ((os : List Open) → loopDepth os ≡ depth → r ≡ fieldsInRange os (decodeRecord loopKind (now (body .entry)))) ⌝ }
+    {
+        let start = unsigned16_at(body, 0);
+        let step = unsigned16_at(body, 2);
+        if Loop::MAX_COST < start || Loop::MAX_COST < step {
+            return false;
+        }
+        let stride = unsigned16_at(body, 4);
+        if stride < Loop::MIN_STRIDE || Loop::MAX_STRIDE < stride {
+            return false;
+        }
+        factors_enclosed(body, LOWER_FACTORS, depth) && factors_enclosed(body, UPPER_FACTORS, depth)
+    }
+}

@@ -1,0 +1,12 @@
+pub mod Affine
+pub mod Places
+pub mod PlanLaws
+pub mod Steps
+pub mod Standing
+pub mod ClosedFigures
+pub mod PassedRecords
+pub mod InStep
+pub mod Laws
+pub mod Planned
+pub mod Examples
+pub mod Consequences

@@ -1,0 +1,297 @@
+-- What a sheet's plan says of each record, by the records before it, and of each loop's trips at the counters of the loops around it.
+use mathlib.Core.List.{_++_, List, [], map, map-append, _∷_}
+use mathlib.Core.Bool.{Bool, cond, false, true}
+use mathlib.Core.Option.{Option, none, some}
+use mathlib.Core.Path.{ap, ap₂, refl, subst, sym, _∙_, _≡_}
+use Prim.Native.Nat.{_%_, _*_, _+_, _-_, _/_, _<_, _^_, max, min, suc, zero, ℕ, _≤_}
+use native.Mathlib.Omega.{arith}
+use native.Mathlib.Nat.{mod-lt}
+use lib.IntN.{_*ℤ_, _+ℤ_, natAbs, pos, ℤ}
+use lib.ListN.{List·getD-map, getD, length, length-append, length-map}
+use lib.Dec.{ltb}
+use Rattle.whole.specs.Integer.{dot, floorRemainder}
+use Rattle.whole.proofs.Residue.{congruent-mod, congruent-unique}
+use Rattle.meaning.specs.Stage.{Frame, choiceFrame, indexesOf, loopFrame, rangesOf}
+use Rattle.meaning.specs.Record.{Loop, Open, loopDepth, loopRecord, Record}
+use Rattle.meaning.specs.Closed.{LoopClass, closedClass, loopClass, push, pushInner, pushOwn, walkedClass}
+use Rattle.meaning.specs.Range.{Range, ceiling}
+use Rattle.meaning.specs.Limits.{ceilingLimit, depthLimit, figureLimit, indexFactors, openLimit, recordLimit}
+use Rattle.meaning.specs.Time.{difference, strideSize, time, trips}
+use Rattle.meaning.specs.Report.{firstOverCeiling}
+use Rattle.meaning.specs.Tree.{height, tree}
+use Rattle.meaning.specs.Answer.{sheetReports}
+use Rattle.meaning.specs.Form.{value}
+use Rattle.meaning.specs.Visits.{visitedOf}
+use Rattle.meaning.proofs.Accepted.{InPlace}
+use Rattle.meaning.proofs.Trips.{Inside}
+use Rattle.meaning.proofs.Reports.{WithinCeiling, first-over-none, within-append}
+use Rattle.meaning.proofs.Ranges.{trips-ceiling}
+use Rattle.layout.specs.declared.rows.Row.{Row}
+use Rattle.layout.specs.Rows.{afterEndAt, endAt, firstAt, firstCost, frameAt, loopAt, openLoopsAt, openerAt, roleAt, roleNumber, roleOf, secondAt, secondCost}
+use Rattle.layout.specs.Loops.{baseAt, limitAt, pushWordAt, strideAt, wordOf}
+use Rattle.nest.specs.Known.{RowsHeld}
+use Rattle.nest.specs.Rows.{endNumber, innermost, rowsOf, sheetStart}
+use Rattle.nest.proofs.RowsRead.{enclosing-reads, end-reads, first-reads, frame-reads, open-loops-reads, role-reads, second-reads}
+use Rattle.nest.proofs.Places.{in-place-through, loop-in-place}
+use Rattle.nest.proofs.Walks.{opensThrough}
+use Rattle.nest.proofs.RowsOf.{rows-length}
+use Rattle.loops.specs.Enclosing.{enter, nothingOpen, Enclosing}
+use Rattle.loops.specs.Facts.{loopFacts}
+use Rattle.loops.proofs.Sizes.{SmallLoop, SmallParameters, difference-value-small, loop-small-at}
+use Rattle.loops.proofs.Enclosings.{loopsAround, nothing-open, open-loops-through}
+use Rattle.planner.specs.Closing.{limitOf, LoopPlan}
+use Rattle.planner.specs.Known.{PlanHeld}
+use Rattle.planner.specs.Plan.{planReports, reportOf, sheetPlans}
+use Rattle.planner.proofs.PlansOf.{definedPlan, limit-below, loop-plan, plans-length}
+use Rattle.planner.proofs.PlanRead.{plan-base, plan-limit, plan-push, plan-stride}
+use Rattle.planner.proofs.PlanReports.{plan-reports}
+use Rattle.state.specs.Open.{counterPart, filled, partLength}
+use Rattle.trips.specs.Trips.{differenceWord, limitWithin, tripsAt, tripsOver, visitedBy}
+use Rattle.state.proofs.Innermost.{filled-at}
+use Rattle.stages.specs.Represent.{counterNumbers}
+use Rattle.stages.proofs.Places.{Stands, opensOf}
+use Rattle.stages.proofs.Affine.{countersOf, difference-dot, difference-word, differenceAt, enclosing-ranges, enclosingOf, trips-of-word, value-affine}
+
+-- counters of further loops have no pushes
+dot-around : (xs ys zs : List ℤ) → length xs ≤ length ys → dot xs (ys ++ zs) ≡ dot xs ys
+dot-around [] ys zs h = refl
+dot-around (x ∷ xs) [] zs h = absurd (omega arith)
+dot-around (x ∷ xs) (y ∷ ys) zs h = ap (λ (z : ℤ). x *ℤ y +ℤ z) (dot-around xs ys zs (omega arith))
+
+pub loops-count : (fs : List Frame) → loopDepth (opensOf fs) ≡ length (counterNumbers fs)
+unfolding opensOf loopDepth counterNumbers
+loops-count [] = refl
+loops-count (loopFrame l body counter sums enclosing ∷ fs) = let i = loops-count fs in omega (arith, length-append (counterNumbers fs) (counter ∷ []))
+loops-count (choiceFrame passed enclosing ∷ fs) = loops-count fs
+
+-- a loop's ceiling, where no report is above the limit
+ceiling-within : (rows : List Row) (plans : List (Option LoopPlan)) (n : ℕ) (p : LoopPlan) → WithinCeiling (planReports rows plans) → n < length rows → n < length plans →
+    getD plans n none ≡ some p → p .facts .ceiling ≤ ceilingLimit
+unfolding planReports WithinCeiling
+ceiling-within [] plans n p w h i e = absurd (omega arith)
+ceiling-within (r ∷ rows) [] n p w h i e = absurd (omega arith)
+ceiling-within (r ∷ rows) (x ∷ plans) zero p w h i e =
+    first (subst (λ o. WithinCeiling (reportOf r o)) e (within-append (reportOf r x) (planReports rows plans) w .0))
+  where
+    first : WithinCeiling (reportOf r (some p)) → p .facts .ceiling ≤ ceilingLimit
+    first g = unfold reportOf in g .0
+ceiling-within (r ∷ rows) (x ∷ plans) (suc n) p w h i e =
+    ceiling-within rows plans n p (within-append (reportOf r x) (planReports rows plans) w .1) (omega arith) (omega arith) e
+
+-- what is known of a sheet that is not refused 1 to 6, at parameters of 16 bits, and of the arrays that hold its plan
+pub record KnownPlan (ps : List ℤ) (rs : List Record) (rows differences limits : List ℕ) : Type 0 where
+  pub placed : InPlace [] rs
+  pub short : length rs ≤ recordLimit
+  pub small : SmallParameters ps
+  pub within : firstOverCeiling (sheetReports ps rs) ≡ none
+  pub ordered : time ps (tree rs) [] .least ≤ time ps (tree rs) [] .most
+  pub smallMost : time ps (tree rs) [] .most < figureLimit
+  pub facts : List ℕ
+  pub held : PlanHeld ps rs rows differences facts limits
+
+module _ {ps : List ℤ} {rs : List Record} {rows differences limits : List ℕ} (known : KnownPlan ps rs rows differences limits) where
+  -- ---- rows
+
+  -- the row of a record of the sheet, with the number n where os with the numbers ns are open
+  pub record RowIs (n : ℕ) (r : Record) (ys : List Record) (os : List Open) (ns : List ℕ) : Type 0 where
+    pub below : n < length rs
+    pub roleIs : roleAt rows n ≡ roleNumber (roleOf r)
+    pub firstIs : firstAt rows n ≡ firstCost r
+    pub secondIs : secondAt rows n ≡ secondCost r
+    pub afterEndIs : afterEndAt rows n ≡ endNumber n r ys % recordLimit + 1
+    pub openerIs : openerAt rows n ≡ (innermost ns - 1) % recordLimit
+    pub frameIs : frameAt rows n ≡ length os % openLimit
+    pub openLoopsAre : openLoopsAt rows n ≡ min (loopDepth os) depthLimit
+
+  module _ {r : Record} {ys : List Record} {n : ℕ} {os : List Open} {ns : List ℕ} {e : Enclosing} (h : Stands ps rs r ys n os ns e) where
+    stands-below : n < length rs
+    stands-below = omega (arith, h .number, ap (λ (xs : List Record). length xs) (h .split), length-append (h .outer) (r ∷ ys))
+
+    rows-here : RowsHeld rows (h .outer ++ (r ∷ ys))
+    rows-here = subst (RowsHeld rows) (h .split) (known .held .rowsAre)
+
+    few-here : length (h .outer ++ (r ∷ ys)) ≤ recordLimit
+    few-here = subst (λ (xs : List Record). length xs ≤ recordLimit) (h .split) (known .short)
+
+    pub row-is : RowIs n r ys os ns
+    row-is =
+        let at : n ≡ length (h .outer) = sym (h .number) in
+        record {
+          below = stands-below;
+          roleIs = ap (roleAt rows) at ∙ role-reads (h .outer) r ys rows-here few-here;
+          firstIs = ap (firstAt rows) at ∙ first-reads (h .outer) r ys rows-here few-here;
+          secondIs = ap (secondAt rows) at ∙ second-reads (h .outer) r ys rows-here few-here;
+          afterEndIs =
+              ap (λ (m : ℕ). endAt rows m + 1) at ∙ ap (λ (m : ℕ). m + 1) (end-reads (h .outer) r ys rows-here few-here)
+              ∙ ap (λ (m : ℕ). endNumber m r ys % recordLimit + 1) (h .number);
+          openerIs =
+              ap (openerAt rows) at
+              ∙ ap (λ (m : ℕ). (m - 1) % recordLimit) (enclosing-reads (h .outer) r ys rows-here few-here ∙ ap innermost (h .leaves .numbersAre));
+          frameIs = ap (frameAt rows) at ∙ frame-reads (h .outer) r ys rows-here few-here ∙ ap (λ (x : List Open). length x % openLimit) (h .leaves .opensAre);
+          openLoopsAre =
+              ap (openLoopsAt rows) at ∙ open-loops-reads (h .outer) r ys rows-here few-here ∙ ap (λ (x : List Open). min (loopDepth x) depthLimit) (h .leaves .opensAre);
+        }
+
+  -- ---- loops
+
+  -- the counters, as the state has them
+  counters-same : (fs : List Frame) → countersOf fs ≡ map pos (counterNumbers fs)
+  unfolding countersOf counterNumbers
+  counters-same [] = refl
+  counters-same (loopFrame l body counter sums enclosing ∷ fs) =
+      ap (λ (xs : List ℤ). xs ++ (pos counter ∷ [])) (counters-same fs) ∙ sym (map-append pos (counterNumbers fs) (counter ∷ []))
+  counters-same (choiceFrame passed enclosing ∷ fs) = counters-same fs
+
+  -- there are as many pushes as counters
+  pushes-count : (fs : List Frame) → length (enclosingOf ps fs .pushes) ≡ length (countersOf fs)
+  unfolding enclosingOf enter countersOf
+  pushes-count [] = refl
+  pushes-count (loopFrame l body counter sums enclosing ∷ fs) =
+      let e : Enclosing = enclosingOf ps fs in
+      omega (
+        arith,
+        pushes-count fs,
+        length-append (map (pushInner l) (e .pushes)) (pushOwn l (length (e .ranges)) ∷ []),
+        length-map (e .pushes) (pushInner l),
+        length-append (countersOf fs) (pos counter ∷ []),
+      )
+  pushes-count (choiceFrame passed enclosing ∷ fs) = pushes-count fs
+
+  -- the loop at record n, with fs open around it
+  module _ {l : Loop} {body : List Record} {n : ℕ} (fs : List Frame) {ns : List ℕ}
+      (h : Stands ps rs (loopRecord l) body n (opensOf fs) ns (enclosingOf ps fs)) (inside : Inside (indexesOf ps fs) (rangesOf ps fs)) where
+    abbrev e : Enclosing
+    e = enclosingOf ps fs
+
+    sheetInPlace : InPlace [] (h .outer ++ (loopRecord l ∷ body))
+    sheetInPlace = subst (InPlace []) (h .split) (known .placed)
+
+    abbrev pushes : List ℤ
+    pushes = map (push (difference l)) (enclosingOf ps fs .pushes)
+
+    abbrev base : ℤ
+    base = value ps (difference l) (enclosingOf ps fs .starts)
+
+    shallow : loopDepth (opensOf fs) < depthLimit
+    shallow =
+        let here = in-place-through (h .outer) (loopRecord l ∷ body) [] sheetInPlace in
+        subst (λ (os : List Open). loopDepth os < depthLimit) (h .leaves .opensAre) (loop-in-place l body (opensThrough [] (h .outer)) here .0)
+
+    few-around : length pushes ≤ indexFactors
+    few-around =
+        let counted = open-loops-through ps (h .outer) [] nothingOpen nothing-open .pushCount in
+        let same = ap (λ (x : Enclosing). length (x .pushes)) (h .leaves .loopsAre) in
+        let depth = ap loopDepth (h .leaves .opensAre) in
+        omega (arith, length-map (enclosingOf ps fs .pushes) (push (difference l)), shallow)
+
+    -- D
+    abbrev d : ℤ
+    d = value ps (difference l) (indexesOf ps fs)
+
+    d-small : natAbs d < 2 ^ 63
+    d-small =
+        let sized = subst (SmallLoop ps l) (h .leaves .loopsAre) (loop-small-at ps (known .small) (h .outer) l body sheetInPlace) in
+        let inner-ranges = subst (Inside (indexesOf ps fs)) (sym (enclosing-ranges ps fs)) inside in
+        omega (arith, difference-value-small ps l (enclosingOf ps fs) (indexesOf ps fs) sized inner-ranges)
+
+    made-few : trips ps l (indexesOf ps fs) ≤ ceilingLimit
+    unfolding definedPlan loopFacts rowsOf
+    made-few =
+        let all : WithinCeiling (planReports (rowsOf rs) (sheetPlans ps rs)) =
+        subst WithinCeiling (sym (plan-reports ps rs (known .placed))) (first-over-none (sheetReports ps rs) .0 (known .within)) in
+        let plan : LoopPlan = definedPlan ps l body (opensThrough [] (h .outer)) (loopsAround ps (h .outer)) in
+        let found : getD (sheetPlans ps rs) n none ≡ some plan =
+        ap₂ (λ (x : List Record) (m : ℕ). getD (sheetPlans ps x) m none) (h .split) (sym (h .number)) ∙ loop-plan ps (h .outer) l body sheetInPlace in
+        let own = ceiling-within (rowsOf rs) (sheetPlans ps rs) n plan all (omega (arith, stands-below h, rows-length rs sheetStart)) (omega (arith, stands-below h, plans-length ps rs)) found in
+        let same : plan .facts .ceiling ≡ ceiling ps l (rangesOf ps fs) = ap (λ (x : Enclosing). ceiling ps l (x .ranges)) (h .leaves .loopsAre) ∙ ap (ceiling ps l) (enclosing-ranges ps fs) in
+        omega (arith, own, same, trips-ceiling ps l (rangesOf ps fs) (indexesOf ps fs) inside)
+
+    number-at : loopAt rows n ≡ loopAt rows (length (h .outer))
+    number-at = ap (loopAt rows) (sym (h .number))
+
+    -- the counters of the loops around it, and of itself where it is open
+    module _ (inner : List ℕ) where
+      abbrev counters : List ℕ
+      counters = filled (partLength counterPart) (counterNumbers fs ++ inner)
+
+      abbrev signedCounters : List ℤ
+      signedCounters = countersOf fs ++ map pos inner
+
+      counter-same : (i : ℕ) → i < depthLimit → getD signedCounters i (pos zero) ≡ pos (getD counters i 0)
+      counter-same i less =
+          ap (λ (xs : List ℤ). getD xs i (pos zero)) (ap (λ (xs : List ℤ). xs ++ map pos inner) (counters-same fs) ∙ sym (map-append pos (counterNumbers fs) inner))
+          ∙ List·getD-map pos (counterNumbers fs ++ inner) i 0 ∙ ap pos (sym (filled-at (partLength counterPart) (counterNumbers fs ++ inner) i less))
+
+      difference-is : differenceAt base pushes (pos (getD counters 0 0) ∷ pos (getD counters 1 0) ∷ pos (getD counters 2 0) ∷ []) ≡ d
+      difference-is =
+          same-counters ∙ difference-dot base pushes signedCounters few-around
+          ∙ ap (λ (z : ℤ). base +ℤ z) (dot-around pushes (countersOf fs) (map pos inner) (omega (arith, pushes-count fs, length-map (enclosingOf ps fs .pushes) (push (difference l)))))
+          ∙ sym (value-affine ps (difference l) fs)
+        where
+          same-counters : differenceAt base pushes (pos (getD counters 0 0) ∷ pos (getD counters 1 0) ∷ pos (getD counters 2 0) ∷ []) ≡ differenceAt base pushes signedCounters
+          same-counters = unfold differenceAt in (
+              let c0 = sym (counter-same 0 (omega arith)) in
+              let c1 = sym (counter-same 1 (omega arith)) in
+              let c2 = sym (counter-same 2 (omega arith)) in
+              λ i. base +ℤ (getD pushes 0 (pos zero) *ℤ c0 i +ℤ (getD pushes 1 (pos zero) *ℤ c1 i +ℤ getD pushes 2 (pos zero) *ℤ c2 i)))
+
+      difference-word-is : differenceWord differences counters (loopAt rows n) ≡ wordOf d
+      unfolding differenceWord wordOf
+      difference-word-is =
+          let c0 : ℕ = getD counters 0 0 in
+          let c1 : ℕ = getD counters 1 0 in
+          let c2 : ℕ = getD counters 2 0 in
+          let place = known .placed in
+          let xs : List Record = h .outer in
+          let pushAt : (m : ℕ) → m < indexFactors → pushWordAt differences (loopAt rows n) m ≡ wordOf (getD pushes m (pos zero)) =
+          λ m less. ap (λ (j : ℕ). pushWordAt differences j m) number-at ∙ plan-push (known .held) place (known .short) xs l body (h .split) m less
+          ∙ ap (λ (x : Enclosing). wordOf (getD (map (push (difference l)) (x .pushes)) m (pos zero))) (h .leaves .loopsAre) in
+          let b : baseAt differences (loopAt rows n) ≡ wordOf base =
+          ap (baseAt differences) number-at ∙ plan-base (known .held) place (known .short) xs l body (h .split)
+          ∙ ap (λ (x : Enclosing). wordOf (value ps (difference l) (x .starts))) (h .leaves .loopsAre) in
+          let p0 = pushAt 0 (omega arith) in
+          let p1 = pushAt 1 (omega arith) in
+          let p2 = pushAt 2 (omega arith) in
+          let same : differenceWord differences counters (loopAt rows n)
+          ≡ (wordOf base + (wordOf (getD pushes 0 (pos zero)) * c0 + (wordOf (getD pushes 1 (pos zero)) * c1 + wordOf (getD pushes 2 (pos zero)) * c2))) % 2 ^ 64 =
+          λ i. (b i + (p0 i * c0 + (p1 i * c1 + p2 i * c2))) % 2 ^ 64 in
+          same
+          ∙ congruent-unique (2 ^ 64) (mod-lt _ (omega arith)) (congruent-mod (2 ^ 64) (difference-word base pushes c0 c1 c2))
+          ∙ ap (λ (z : ℤ). floorRemainder z (2 ^ 64)) difference-is
+
+      pub trips-are : 0 < strideSize l → tripsAt differences counters (loopAt rows n) ≡ trips ps l (indexesOf ps fs)
+      unfolding tripsAt tripsOver trips
+      trips-are moves =
+          let stride : strideAt differences (loopAt rows n) ≡ strideSize l =
+          ap (strideAt differences) number-at ∙ plan-stride (known .held) (known .placed) (known .short) (h .outer) l body (h .split) in
+          let one : max (strideSize l) 1 ≡ strideSize l = omega arith in
+          let few = made-few in
+          let w : ℕ = wordOf d in
+          let made = trips-of-word d (strideSize l) d-small in
+          ap₂ (λ (n : ℕ) (m : ℕ). tripsOver n m) stride difference-word-is
+          ∙ ap (λ (m : ℕ). cond (ltb w (2 ^ 63)) (min (w / m + 1) ceilingLimit) zero) one
+          ∙ go (ltb w (2 ^ 63)) made few
+        where
+          go : (c : Bool) → trips ps l (indexesOf ps fs) ≡ cond c (suc (wordOf d / strideSize l)) 0 → trips ps l (indexesOf ps fs) ≤ ceilingLimit →
+              cond c (min (wordOf d / strideSize l + 1) ceilingLimit) zero ≡ trips ps l (indexesOf ps fs)
+          go true made few = omega arith
+          go false made few = omega arith
+
+    -- its limit, of which nothing is cut off, and how many trips are visited
+    pub limit-is : limitWithin limits (loopAt rows n) (length (counterNumbers fs)) ≡ limitOf (loopClass ps l (tree body) (rangesOf ps fs)) (height (tree body))
+    unfolding limitWithin definedPlan
+    limit-is =
+        let xs : List Record = h .outer in
+        let read = ap (limitAt limits) number-at ∙ plan-limit (known .held) (known .placed) (known .short) xs l body (h .split) in
+        let below = limit-below ps xs l body sheetInPlace in
+        let depth : loopDepth (opensThrough [] xs) ≡ length (counterNumbers fs) = ap loopDepth (h .leaves .opensAre) ∙ loops-count fs in
+        let limit : ℕ = limitOf (loopClass ps l (tree body) (loopsAround ps xs .ranges)) (height (tree body)) in
+        let whole : min limit (depthLimit - length (counterNumbers fs)) ≡ limit = omega arith in
+        ap (λ (m : ℕ). min m (depthLimit - length (counterNumbers fs))) read ∙ whole
+        ∙ ap (λ (x : List Range). limitOf (loopClass ps l (tree body) x) (height (tree body))) (ap (λ (x : Enclosing). x .ranges) (h .leaves .loopsAre) ∙ enclosing-ranges ps fs)
+
+-- how many trips are visited, by the limit
+pub visited-by-limit : (c : LoopClass) (h n : ℕ) → visitedBy (limitOf c h) n ≡ visitedOf c h n
+unfolding visitedBy limitOf visitedOf
+visited-by-limit closedClass h n = refl
+visited-by-limit walkedClass h n = refl

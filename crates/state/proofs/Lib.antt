@@ -1,0 +1,4 @@
+pub mod OpenLaws
+pub mod FrameLaws
+pub mod KeptLaws
+pub mod Innermost

@@ -1,0 +1,5 @@
+pub mod Open
+pub mod Sums
+pub mod Frames
+pub mod Kept
+pub mod States
