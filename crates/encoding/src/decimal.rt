@@ -1,4 +1,5 @@
 // Numbers in decimal, put at a position of a buffer; the answer is the position after them.
+ghost use mathlib.Core.Path.{_≡_};
 ghost use mathlib.Core.List.{[], _∷_};
 ghost use Prim.Native.Nat.{_+_, _≤_, _<_};
 ghost use lib.ListN.{length};
@@ -38,7 +39,7 @@ fn put_digits(buffer: &mut [u8], at: usize, more: usize, n: u64) -> usize
 pub fn put_decimal(buffer: &mut [u8], at: usize, n: u64) -> usize
     requires { ⌜ at + decimalLimit ≤ length (now buffer) ⌝ }
     ensures appended { λ r. ⌜ Appended (now (buffer .entry)) at (decimal n) (now (buffer .exit)) r ⌝ }
-    ensures short { λ r. ⌜ r ≤ at + decimalLimit ⌝ }
+    ensures short { λ r. ⌜ (r ≡ at + length (decimal n)) × (r ≤ at + decimalLimit) ⌝ }
 {
     put_digits(buffer, at, MAX_DIGITS, n)
 }

@@ -6,7 +6,7 @@ use Prim.Native.Nat.{ℕ, suc, _-_, _<_, _≤_, min}
 use native.Mathlib.Omega.{arith}
 use borrow.Author.Tests.{lt-ltb, le-ltb}
 use Rattle.meaning.specs.Limits.{recordLimit}
-use Rattle.layout.specs.Rows.{openLoopsAt}
+use Rattle.layout.specs.Rows.{depthAt}
 use Rattle.state.specs.States.{StateParts}
 use Rattle.passing.specs.Pass.{Passage, passStraightWork, passChoice, isOfLoop, passLoop}
 use Rattle.evaluator.specs.Machine.{Further, unlessBegun, Following, nothing, ofLoop, ofChoice}
@@ -73,7 +73,7 @@ module _ (rows differences limits : List ℕ) (count : ℕ) where
     loop-on e q = ap (λ (q : Passage). q .after) (turned false e) ∙ q
 
   -- a stage is the body evaluator with all records left
-  pub stage-made : (s : StateParts) {records depth : ℕ} {t : StateParts} → records ≡ min count recordLimit → depth ≡ openLoopsAt rows (s .at)
+  pub stage-made : (s : StateParts) {records depth : ℕ} {t : StateParts} → records ≡ min count recordLimit → depth ≡ depthAt rows (s .at)
       → bodyEvaluator rows differences limits records records depth s .after ≡ t → nextOn rows differences limits count s ≡ t
   unfolding nextOn stageOn
   stage-made s e d p = sym (λ i. bodyEvaluator rows differences limits (e i) (e i) (d i) s .after) ∙ p

@@ -4,7 +4,7 @@ use mathlib.Core.Bool.{Bool, true, false, cond}
 use Prim.Native.Nat.{ℕ, zero, suc, min}
 use lib.Dec.{ltb}
 use Rattle.meaning.specs.Limits.{recordLimit}
-use Rattle.layout.specs.Rows.{openLoopsAt}
+use Rattle.layout.specs.Rows.{depthAt}
 use Rattle.state.specs.States.{StateParts}
 use Rattle.passing.specs.Pass.{Passage, goesOn, passStraightWork, passChoice, isOfLoop, passLoop}
 
@@ -47,7 +47,7 @@ module _ (rows differences limits : List ℕ) (count : ℕ) where
   unfoldable pub stageOn : StateParts → Passage
   stageOn s =
       let records : ℕ = min count recordLimit in
-      bodyEvaluator rows differences limits records records (openLoopsAt rows (s .at)) s
+      bodyEvaluator rows differences limits records records (depthAt rows (s .at)) s
 
   -- the next state on a plan
   unfoldable pub nextOn : StateParts → StateParts

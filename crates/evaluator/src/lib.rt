@@ -10,7 +10,7 @@ use crate::evaluate::evaluate_body;
 use layout::differences::Differences;
 use layout::limits::Limits;
 use layout::rows::Rows;
-use layout::rows::open_loops_at;
+use layout::rows::depth_at;
 use records::MAX_RECORDS;
 use state::open::Open;
 use state::sums::Sums;
@@ -41,7 +41,7 @@ pub fn advance(
         ≡ stateIn r (now (sums .exit)) (now (opened .exit)) ⌝ }
 {
     let records = within(count);
-    let depth = open_loops_at(rows, at);
+    let depth = depth_at(rows, at);
     evaluate_body(
         rows,
         differences,

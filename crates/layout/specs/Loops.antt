@@ -1,6 +1,6 @@
 -- What the parameters make of each loop, as numbers: differences, facts and limits, and these read by position.
 use mathlib.Core.List.{List, [], _∷_}
-use mathlib.Core.Bool.{Bool, not}
+use mathlib.Core.Bool.{Bool, cond, not}
 use Prim.Native.Nat.{ℕ, _+_, _*_, _/_, _%_, _^_}
 use lib.IntN.{ℤ, pos}
 use lib.Dec.{eqb}
@@ -56,7 +56,7 @@ abbrev pub factsLength : ℕ
 factsLength = loopLimit * factWidth
 
 unfoldable pub factNumbers : Fact → List ℕ
-factNumbers f = f .ceiling ∷ f .choice ∷ f .enough ∷ []
+factNumbers f = f .ceiling ∷ f .choice ∷ cond (f .enough) 1 0 ∷ []
 
 abbrev pub factFrom : ℕ → ℕ
 factFrom j = j % loopLimit * factWidth

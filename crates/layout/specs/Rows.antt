@@ -100,12 +100,8 @@ module _ (rows : List ℕ) (number : ℕ) where
   frameAt = numberIn rows number 5 % openLimit
 
   -- how many loops are open around it
-  abbrev pub openLoopsAt : ℕ
-  openLoopsAt = min (numberIn rows number 6) depthLimit
-
-  -- the same of a loop's record, around which there is room for one more
   abbrev pub depthAt : ℕ
-  depthAt = numberIn rows number 6 % depthLimit
+  depthAt = min (numberIn rows number 6) depthLimit
 
   -- the number of a loop among the loops
   abbrev pub loopAt : ℕ

@@ -1,5 +1,6 @@
 // Facts: what closing asks of each loop and what is said of it, three numbers a loop.
 ghost use mathlib.Core.Path.{_≡_};
+ghost use mathlib.Core.Bool.{cond};
 ghost use Prim.Native.Nat.{_<_};
 ghost use lib.Seq.{paste};
 ghost use Rattle.layout.specs.Loops.{factWidth, factFrom, factNumbers, factIn, ceilingAt, choiceDepthAt, enoughAt};
@@ -8,12 +9,12 @@ use crate::position;
 use crate::put;
 use crate::wide;
 
-// Of one loop: its ceiling; how many of the loops around it stand around the innermost choice around it; 1 where its smallest D is as large as closing
+// Of one loop: its ceiling; how many of the loops around it stand around the innermost choice around it; whether its smallest D is as large as closing
 // a loop around it asks.
 pub struct Fact {
     pub ceiling: u16,
     pub choice: u16,
-    pub enough: u16,
+    pub enough: bool,
 }
 
 const FACT_WIDTH: usize = 3;
@@ -36,11 +37,17 @@ fn column_at(facts: &Facts, number: usize, column: usize) -> u16
     facts[number % MAX_LOOPS * FACT_WIDTH + column]
 }
 
+fn one_if(condition: bool) -> u16
+    ensures { λ r. ⌜ r ≡ cond condition 1 0 ⌝ }
+{
+    if condition { 1 } else { 0 }
+}
+
 // Stores what is known of a loop.
 pub fn put_fact(facts: &mut Facts, number: usize, known: Fact)
     ensures { λ _. ⌜ now (facts .exit) ≡ paste (now (facts .entry)) (factFrom number) (factNumbers known) factWidth ⌝ }
 {
-    let values = [known.ceiling, known.choice, known.enough];
+    let values = [known.ceiling, known.choice, one_if(known.enough)];
     put(facts, number % MAX_LOOPS * FACT_WIDTH, &values);
 }
 

@@ -3,7 +3,7 @@ ghost use mathlib.Core.Path.{_≡_};
 ghost use Prim.Native.Nat.{_<_};
 ghost use lib.Seq.{paste};
 ghost use Rattle.layout.specs.Rows.{rowWidth, rowFrom, rowNumbers, numberIn};
-ghost use Rattle.layout.specs.Rows.{roleAt, firstAt, secondAt, entryCostAt, endAt, afterEndAt, enclosingAt, openerAt, frameAt, openLoopsAt, depthAt, loopAt, offsetAt};
+ghost use Rattle.layout.specs.Rows.{roleAt, firstAt, secondAt, entryCostAt, endAt, afterEndAt, enclosingAt, openerAt, frameAt, depthAt, loopAt, offsetAt};
 use crate::MAX_LOOPS;
 use crate::position;
 use crate::put;
@@ -162,18 +162,11 @@ pub fn frame_at(rows: &Rows, number: usize) -> usize
 }
 
 // How many loops are open around a record.
-pub fn open_loops_at(rows: &Rows, number: usize) -> usize
-    ensures { λ r. ⌜ r ≡ openLoopsAt (now (rows .entry)) number ⌝ }
-{
-    let depth = position(column_at(rows, number, DEPTH));
-    if depth < MAX_DEPTH { depth } else { MAX_DEPTH }
-}
-
-// How many loops are open around a loop.
 pub fn depth_at(rows: &Rows, number: usize) -> usize
     ensures { λ r. ⌜ r ≡ depthAt (now (rows .entry)) number ⌝ }
 {
-    position(column_at(rows, number, DEPTH)) % MAX_DEPTH
+    let depth = position(column_at(rows, number, DEPTH));
+    if depth < MAX_DEPTH { depth } else { MAX_DEPTH }
 }
 
 // The number of a loop among the loops.

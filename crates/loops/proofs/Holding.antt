@@ -250,7 +250,7 @@ module _ (ps : List ℤ) (os : List Open) (e : Enclosing) (a : Around) (pushes :
     unfolding factWithin factOf enoughWithin loopFacts differenceRange
     fact-of-loop choice c =
         let d = range-held (difference l) plain-apart in
-        λ t. record { ceiling = ceiling-of-loop t; choice = c t; enough = cond (leZ (askedDifference l) (d t .lo)) 1 0 }
+        λ t. record { ceiling = ceiling-of-loop t; choice = c t; enough = leZ (askedDifference l) (d t .lo) }
 
     abbrev pushesInside : List (List ℤ)
     pushesInside = map (pushInner l) (e .pushes) ++ (pushOwn l (length (e .ranges)) ∷ [])

@@ -37,7 +37,7 @@ unfoldable pub wordsOf : LoopFacts → List ℕ
 wordsOf f = differenceWords (f .stride) (f .base) (f .pushes)
 
 unfoldable pub factOf : LoopFacts → Fact
-factOf f = record { ceiling = f .ceiling; choice = f .choiceDepth; enough = cond (f .enough) 1 0 }
+factOf f = record { ceiling = f .ceiling; choice = f .choiceDepth; enough = f .enough }
 
 module _ (parameters : List ℤ) where
   unfoldable pub loopFacts : List Open → Enclosing → Loop → LoopFacts

@@ -34,7 +34,7 @@ enoughWithin f asked a = leZ asked (rangeWithin f (a .lo) (a .hi) .lo)
 
 -- as they are stored
 unfoldable pub factWithin : Form → ℕ → ℤ → ℕ → Around → Fact
-factWithin f stride asked choice a = record { ceiling = ceilingWithin f stride a; choice = choice; enough = cond (enoughWithin f asked a) 1 0 }
+factWithin f stride asked choice a = record { ceiling = ceilingWithin f stride a; choice = choice; enough = enoughWithin f asked a }
 
 -- a loop's pushes at its own depth
 unfoldable pub ownRow : ℤ → ℕ → List ℤ

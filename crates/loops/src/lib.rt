@@ -43,12 +43,6 @@ use layout::rows::role_at;
 use records::loops::Loop;
 use sheet::nesting::Nesting;
 
-fn one_if(condition: bool) -> u16
-    ensures { λ r. ⌜ r ≡ cond condition 1 0 ⌝ }
-{
-    if condition { 1 } else { 0 }
-}
-
 // Stores what the parameters make of the loop with this number among the loops, unless its ceiling is above the limit; answers whether it is.
 fn note_loop(
     forms: Forms,
@@ -78,7 +72,7 @@ fn note_loop(
     let fact = Fact {
         ceiling: found.ceiling as u16,
         choice: choice as u16,
-        enough: one_if(found.enough),
+        enough: found.enough,
     };
     put_fact(facts, number, fact);
     false

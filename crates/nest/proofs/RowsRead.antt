@@ -10,7 +10,7 @@ use Rattle.meaning.specs.Limits.{depthLimit, openLimit, recordLimit}
 use Rattle.meaning.proofs.Accepted.{InPlace}
 use Rattle.layout.specs.declared.rows.Row.{Row}
 use Rattle.layout.specs.Rows.{firstCost, numberIn, roleNumber, roleOf, rowNumbers, rowWidth, secondCost}
-use Rattle.layout.specs.Rows.{depthAt, enclosingAt, endAt, firstAt, frameAt, loopAt, offsetAt, openLoopsAt, roleAt, secondAt}
+use Rattle.layout.specs.Rows.{depthAt, enclosingAt, endAt, firstAt, frameAt, loopAt, offsetAt, roleAt, secondAt}
 use Rattle.layout.specs.Loops.{loopLimit}
 use Rattle.layout.proofs.Reading.{blankRow, row-number}
 use Rattle.nest.specs.Rows.{endNumber, innermost, rowAt, rowsOf, rowsStored, sheetStart}
@@ -55,13 +55,9 @@ module _ {rows : List ℕ} (xs : List Record) (r : Record) (ys : List Record) (h
   unfolding rowNumbers rowAt
   frame-reads = ap (λ (n : ℕ). n % openLimit) (reads 5 (omega arith))
 
-  pub open-loops-reads : openLoopsAt rows (length xs) ≡ min (loopDepth (opensThrough [] xs)) depthLimit
+  pub depth-reads : depthAt rows (length xs) ≡ min (loopDepth (opensThrough [] xs)) depthLimit
   unfolding rowNumbers rowAt
-  open-loops-reads = ap (λ (n : ℕ). min n depthLimit) (reads 6 (omega arith))
-
-  pub depth-reads : depthAt rows (length xs) ≡ loopDepth (opensThrough [] xs) % depthLimit
-  unfolding rowNumbers rowAt
-  depth-reads = ap (λ (n : ℕ). n % depthLimit) (reads 6 (omega arith))
+  depth-reads = ap (λ (n : ℕ). min n depthLimit) (reads 6 (omega arith))
 
   pub offset-reads : offsetAt rows (length xs) ≡ sheetLength xs
   unfolding rowNumbers rowAt

@@ -73,7 +73,9 @@ module _ {sheet : List ℕ} {ps : List ℤ} {count : ℕ} {rows differences fact
       shallow = loop-placed sheet ps i there l is .1
 
       pub depth-there : depthAt rows i ≡ loopDepth os
-      depth-there = ap (depthAt rows) (sym (records-before sheet ps i there)) ∙ depth-reads (take i rs) this rest (rows-at sheet ps i there (g .rowsAre)) (few-at sheet ps i there) ∙ mod-eq-of-lt shallow
+      depth-there =
+          let reads = depth-reads (take i rs) this rest (rows-at sheet ps i there (g .rowsAre)) (few-at sheet ps i there) in
+          ap (depthAt rows) (sym (records-before sheet ps i there)) ∙ reads ∙ omega (arith, shallow)
 
       pub end-there : endAt rows i ≡ suc i + recordsInside zero rest
       unfolding endNumber opensAfter

@@ -6,7 +6,7 @@ use mathlib.Core.Path.{ap, ap₂, refl, subst, sym, _∙_, _≡_}
 use Prim.Native.Nat.{_%_, _+_, _-_, _<_, _^_, max, suc, zero, ℕ, _≤_}
 use native.Mathlib.Numerals.{add-one}
 use native.Mathlib.Omega.{arith}
-use native.Mathlib.Nat.{mod-eq-of-lt, mod-lt, zero-mod}
+use native.Mathlib.Nat.{mod-eq-of-lt, zero-mod}
 use borrow.Author.Tests.{eq-eqb, le-ltb, lt-ltb, ne-eqb}
 use lib.ListN.{drop, drop-of-length-le, getD, length, take}
 use lib.Seq.{drop-cons}
@@ -14,7 +14,7 @@ use lib.IntN.{natAbs, negsuc, pos, ℤ}
 use Rattle.whole.specs.Integer.{floorRemainder}
 use Rattle.meaning.specs.Limits.{indexFactors, depthLimit}
 use Rattle.layout.specs.Loops.{choiceDepthAt, enoughAt, pushWordAt, strideAt, wordOf}
-use Rattle.layout.specs.Rows.{depthAt, endAt, loopAt, numberIn, roleAt, roleNumber}
+use Rattle.layout.specs.Rows.{depthAt, endAt, loopAt, roleAt, roleNumber}
 use Rattle.planner.specs.Known.{KnownFacts, KnownInside}
 use Rattle.planner.specs.Closing.{heightAbove, limitAmong, prevents, somePrevents, someUneven}
 use Rattle.loops.specs.Facts.{LoopFacts}
@@ -118,7 +118,7 @@ pub record Limiting (rows differences facts : List ℕ) (number depth end deepes
   pub endIs : end ≡ endAt rows number
   pub past : number < i
   pub deep : depth ≤ deepest
-  pub low : deepest < depthLimit
+  pub low : deepest ≤ depthLimit
   pub rest : (fs : List (Option LoopFacts)) → KnownInside rows differences facts number fs →
       (somePrevents depth (inside fs end (number + 1)) ≡ somePrevents depth (inside fs end i))
       × (heightAbove depth (inside fs end (number + 1)) ≡ max (deepest - depth) (heightAbove depth (inside fs end i)))
@@ -126,8 +126,8 @@ pub record Limiting (rows differences facts : List ℕ) (number depth end deepes
 abbrev limitThere : List ℕ → ℕ → List (Option LoopFacts) → ℕ
 limitThere rows number fs = limitAmong (depthAt rows number) (take (endAt rows number - (number + 1)) (drop (number + 1) fs))
 
-depth-below : (rows : List ℕ) (n : ℕ) → depthAt rows n < depthLimit
-depth-below rows n = mod-lt (numberIn rows n 6) (let h : 0 < depthLimit = omega arith in h)
+depth-below : (rows : List ℕ) (n : ℕ) → depthAt rows n ≤ depthLimit
+depth-below rows n = omega arith
 
 pub limiting-start : (rows differences facts : List ℕ) (number depth end : ℕ) → depth ≡ depthAt rows number → end ≡ endAt rows number →
     Limiting rows differences facts number depth end depth (number + 1)

@@ -16,7 +16,7 @@ use Rattle.meaning.specs.Record.{Record, choiceRecord, endRecord, kind, loopDep
 use Rattle.meaning.specs.Limits.{depthLimit, recordLimit}
 use Rattle.meaning.proofs.Passes.{PassDoes, pass-does, stage-at-end, stage-unrolls}
 use Rattle.meaning.proofs.AddingUp.{StepAddsUp, adds-up-pass}
-use Rattle.layout.specs.Rows.{Role, choiceRole, endRole, loopRole, nextArmRole, openLoopsAt, openerAt, roleAt, roleNumber, roleOf, roleOfKind, straightRole}
+use Rattle.layout.specs.Rows.{Role, choiceRole, endRole, loopRole, nextArmRole, depthAt, openerAt, roleAt, roleNumber, roleOf, roleOfKind, straightRole}
 use Rattle.state.specs.States.{StateParts}
 use Rattle.evaluator.specs.Machine.{Following, bodyEvaluator, followingAt, loopEvaluator, nothing, ofChoice, ofLoop, passFollowing, stageOn, unlessBegun}
 use Rattle.passing.specs.Pass.{Passage, goesOn, isOfLoop, passChoice, passLoop, passStraightWork}
@@ -205,28 +205,28 @@ module _ {ps : List ℤ} {rs : List Record} {rows differences limits : List ℕ}
       (λ t few. in-step-from n left (t .remaining) (t .current) (t .frames) (t .visits) (omega arith)) (omega arith) g
 
   -- the plan says how many loops are open
-  depth-here : {r : Record} {ys : List Record} (fs : List Frame) (h : PlacedAt ps rs (r ∷ ys) fs) → openLoopsAt rows (length (h .before)) ≡ openLoops fs
+  depth-here : {r : Record} {ys : List Record} (fs : List Frame) (h : PlacedAt ps rs (r ∷ ys) fs) → depthAt rows (length (h .before)) ≡ openLoops fs
   depth-here fs h =
       let all : min (loopDepth (opensOf fs)) depthLimit ≡ openLoops fs =
       omega (arith, loops-count fs, frames-shallow known fs (h .numbers) (h .framed)) in
-      row-here known fs h .openLoopsAre ∙ all
+      row-here known fs h .depthIs ∙ all
 
   -- a stage of the state's numbers is a stage of the definition
   pub stage-in-step : (s : Meaning.State) → Regular known s → stageOf (stageOn rows differences limits (length rs) (struct s)) ≡ stageOf (passage (Meaning.stage ps s))
   unfolding stageOn
   stage-in-step s g =
       let count : min (length rs) recordLimit ≡ length rs = omega (arith, known .short) in
-      ap (λ (m : ℕ). stageOf (bodyEvaluator rows differences limits m m (openLoopsAt rows (struct s .at)) (struct s))) count
+      ap (λ (m : ℕ). stageOf (bodyEvaluator rows differences limits m m (depthAt rows (struct s .at)) (struct s))) count
       ∙ go (s .remaining) (s .current) (s .frames) (s .visits) g
     where
       go : (remaining : List Record) (c : Bounds) (fs : List Frame) (v : ℕ) → Regular known (state remaining c fs v) →
-          stageOf (body (length rs) (openLoopsAt rows (struct (state remaining c fs v) .at)) (struct (state remaining c fs v)))
+          stageOf (body (length rs) (depthAt rows (struct (state remaining c fs v) .at)) (struct (state remaining c fs v)))
           ≡ stageOf (passage (Meaning.stage ps (state remaining c fs v)))
       go [] c fs v g = unfold passageOf in
-          ap stageOf (end-in-step c fs v (length rs) (openLoopsAt rows (struct (state [] c fs v) .at)))
+          ap stageOf (end-in-step c fs v (length rs) (depthAt rows (struct (state [] c fs v) .at)))
           ∙ ap (λ (p : Step). stageOf (passage p)) (sym (stage-at-end ps c fs v))
       go (r ∷ ys) c fs v g = unfold structOf in
           let fits : length (r ∷ ys) ≤ length rs = omega (arith, ap (λ (xs : List Record). length xs) (g .place .split), length-append (g .place .before) (r ∷ ys)) in
-          let depth = ap (openLoopsAt rows) (place-is known (g .place .before) (r ∷ ys) (g .place .split)) ∙ depth-here fs (g .place) in
+          let depth = ap (depthAt rows) (place-is known (g .place .before) (r ∷ ys) (g .place .split)) ∙ depth-here fs (g .place) in
           ap (λ (d : ℕ). stageOf (body (length rs) d (struct (state (r ∷ ys) c fs v)))) depth
           ∙ ap stageOf (in-step-from (length (r ∷ ys)) (length rs) (r ∷ ys) c fs v (omega arith) fits g)

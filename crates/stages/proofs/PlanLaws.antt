@@ -27,11 +27,11 @@ use Rattle.meaning.proofs.Trips.{Inside}
 use Rattle.meaning.proofs.Reports.{WithinCeiling, first-over-none, within-append}
 use Rattle.meaning.proofs.Ranges.{trips-ceiling}
 use Rattle.layout.specs.declared.rows.Row.{Row}
-use Rattle.layout.specs.Rows.{afterEndAt, endAt, firstAt, firstCost, frameAt, loopAt, openLoopsAt, openerAt, roleAt, roleNumber, roleOf, secondAt, secondCost}
+use Rattle.layout.specs.Rows.{afterEndAt, endAt, firstAt, firstCost, frameAt, loopAt, depthAt, openerAt, roleAt, roleNumber, roleOf, secondAt, secondCost}
 use Rattle.layout.specs.Loops.{baseAt, limitAt, pushWordAt, strideAt, wordOf}
 use Rattle.nest.specs.Known.{RowsHeld}
 use Rattle.nest.specs.Rows.{endNumber, innermost, rowsOf, sheetStart}
-use Rattle.nest.proofs.RowsRead.{enclosing-reads, end-reads, first-reads, frame-reads, open-loops-reads, role-reads, second-reads}
+use Rattle.nest.proofs.RowsRead.{enclosing-reads, end-reads, first-reads, frame-reads, depth-reads, role-reads, second-reads}
 use Rattle.nest.proofs.Places.{in-place-through, loop-in-place}
 use Rattle.nest.proofs.Walks.{opensThrough}
 use Rattle.nest.proofs.RowsOf.{rows-length}
@@ -101,7 +101,7 @@ module _ {ps : List ℤ} {rs : List Record} {rows differences limits : List ℕ}
     pub afterEndIs : afterEndAt rows n ≡ endNumber n r ys % recordLimit + 1
     pub openerIs : openerAt rows n ≡ (innermost ns - 1) % recordLimit
     pub frameIs : frameAt rows n ≡ length os % openLimit
-    pub openLoopsAre : openLoopsAt rows n ≡ min (loopDepth os) depthLimit
+    pub depthIs : depthAt rows n ≡ min (loopDepth os) depthLimit
 
   module _ {r : Record} {ys : List Record} {n : ℕ} {os : List Open} {ns : List ℕ} {e : Enclosing} (h : Stands ps rs r ys n os ns e) where
     stands-below : n < length rs
@@ -128,8 +128,8 @@ module _ {ps : List ℤ} {rs : List Record} {rows differences limits : List ℕ}
               ap (openerAt rows) at
               ∙ ap (λ (m : ℕ). (m - 1) % recordLimit) (enclosing-reads (h .outer) r ys rows-here few-here ∙ ap innermost (h .leaves .numbersAre));
           frameIs = ap (frameAt rows) at ∙ frame-reads (h .outer) r ys rows-here few-here ∙ ap (λ (x : List Open). length x % openLimit) (h .leaves .opensAre);
-          openLoopsAre =
-              ap (openLoopsAt rows) at ∙ open-loops-reads (h .outer) r ys rows-here few-here ∙ ap (λ (x : List Open). min (loopDepth x) depthLimit) (h .leaves .opensAre);
+          depthIs =
+              ap (depthAt rows) at ∙ depth-reads (h .outer) r ys rows-here few-here ∙ ap (λ (x : List Open). min (loopDepth x) depthLimit) (h .leaves .opensAre);
         }
 
   -- ---- loops

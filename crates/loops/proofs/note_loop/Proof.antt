@@ -3,7 +3,6 @@ use lib.IntN.{ℤ}
 use mir.Facts.{toZ-ofZ}
 use Rattle.form.specs.Forms.{wideForm}
 use mathlib.Core.Path.{refl, sym, _∙_, ap}
-use mathlib.Core.Bool.{Bool, cond}
 use mathlib.Core.List.{List}
 use Prim.Native.Nat.{ℕ}
 use borrow.Author.Tests.{lt-ltb, le-ltb}
@@ -36,26 +35,22 @@ cast-t17 c = search needs
 cast-t18 : tie.Need-cast-t18
 cast-t18 c = search needs
 
-one-if-requires : tie.Need-one-if-requires
-one-if-requires c κs = search needs
-
 put-fact-requires : tie.Need-put-fact-requires
 put-fact-requires c κs = search needs
 
 returns-2 : tie.Need-returns-2
 unfolding factWithin
 returns-2 c =
-    let words = c .before .before .before .before .before .before in
+    let words = c .before .before .before .before .before in
     let left = words .before .before in
     let reached = left .before .before in
     let given = reached .before .before .before .args in
     let found = reached .reach .ensures in
     let asked = toZ-ofZ (record { sfits = reached .before .struct-told .given .1 .1 .0 .1 }) in
-    let enough = c .before .before .one-if .ensures ∙ ap (λ (t : Bool). cond t 1 0)
-    (found .1 ∙ ap (λ (z : ℤ). enoughWithin (wideForm (given .forms .difference)) z (given .around)) asked) in (
+    let enough = found .1 ∙ ap (λ (z : ℤ). enoughWithin (wideForm (given .forms .difference)) z (given .around)) asked in (
       sym (le-ltb ceilingLimit _ (left .if1 .left)) ∙ ap (ltb ceilingLimit) (found .0),
       (
-        c .before .before .before .before .put-difference .ensures
+        c .before .before .before .put-difference .ensures
             ∙ ap (λ (w : List ℕ). paste (given .differences .now) (differenceFrom (given .number)) w differenceWidth) (words .loop-words .ensures),
         c .put-fact .ensures
             ∙ (λ i. paste (given .facts .now) (factFrom (given .number))
@@ -73,6 +68,5 @@ note-loop-spec =
     put-difference-requires
     cast-t17
     cast-t18
-    one-if-requires
     put-fact-requires
     returns-2)

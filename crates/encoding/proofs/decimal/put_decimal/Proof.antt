@@ -12,7 +12,7 @@ same-length c = search needs
 
 returns : tie.Need-returns
 unfolding decimal
-returns c = c .before .before .put-digits .ensures
+returns c = let put = c .before .before .put-digits .ensures in (put .0, (put .0 .ends, put .1))
 
 pub put-decimal-spec : {M : Type 1} → statement M
 put-decimal-spec = tie.close (tie.spec put-digits-requires same-length returns)
