@@ -1,4 +1,4 @@
-/* Calls pumdalin_figures from C on the sheets whose figures the requirement gives, and once for each
+/* Calls pumdalin_figures from C on the sheets with known figures, and once for each
  * refusal. A wrong number, or a wrong byte anywhere in the answer area or before it, makes the exit
  * status 1; the sheet lies in read-only memory, and a byte read or written past the end of sheet or
  * area ends the program. */
@@ -97,14 +97,6 @@ static const struct call calls[] = {
     {"no area", WHOLE(costs), 0, 100, 0, PUMDALIN_AREA, {0}},
 };
 
-static uint64_t number_at(const uint8_t *bytes)
-{
-    uint64_t number = 0;
-    for (int i = 7; i >= 0; i--)
-        number = number * 256 + bytes[i];
-    return number;
-}
-
 /* A byte of the area as it has to be after the call. */
 static uint8_t expected_byte(const struct call *call, size_t at)
 {
@@ -127,10 +119,10 @@ static int area_as_expected(const struct call *call, const struct guarded *area)
 static void print_answer(uint32_t number, const uint8_t *area)
 {
     if (number == PUMDALIN_ANSWERED)
-        printf("best %llu worst %llu visits %llu\n", (unsigned long long)number_at(area),
-               (unsigned long long)number_at(area + 8), (unsigned long long)number_at(area + 16));
+        printf("best %llu worst %llu visits %llu\n", (unsigned long long)pumdalin_least(area),
+               (unsigned long long)pumdalin_most(area), (unsigned long long)pumdalin_visits(area));
     else
-        printf("refused %lu\n", (unsigned long)number);
+        printf("refused %lu: %s\n", (unsigned long)number, pumdalin_words(number));
 }
 
 static int made_as_expected(const struct call *call)
@@ -154,6 +146,6 @@ int main(void)
 
     for (size_t i = 0; i < count; i++)
         good += (size_t)made_as_expected(&calls[i]);
-    printf("%lu of %lu calls as the requirement says\n", (unsigned long)good, (unsigned long)count);
+    printf("%lu of %lu calls as expected\n", (unsigned long)good, (unsigned long)count);
     return good == count ? 0 : 1;
 }

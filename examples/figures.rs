@@ -1,4 +1,4 @@
-//! Calls pumdalin_figures from Rust on the sheets whose figures the requirement gives, and once for
+//! Calls pumdalin_figures from Rust on the sheets with known figures, and once for
 //! each refusal. A wrong number, or a wrong byte anywhere in the answer area or before it, makes the
 //! exit status 1; the sheet lies in read-only memory, and a byte read or written past the end of
 //! sheet or area ends the program.
@@ -184,7 +184,7 @@ fn main() -> ExitCode {
     let calls = [answered_calls(), refused_calls()];
     let count = calls.iter().flatten().count();
     let good = calls.iter().flatten().filter(|call| made_as_expected(call)).count();
-    println!("{good} of {count} calls as the requirement says");
+    println!("{good} of {count} calls as expected");
     if good == count {
         ExitCode::SUCCESS
     } else {

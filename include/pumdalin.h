@@ -1,41 +1,128 @@
-/* Least cycles, most cycles and visits of a sheet, at given parameters. */
+/* Pumdalin: least cycles, most cycles and visits of a sheet, at given parameters. The library is for x86-64.
+ *
+ * Of every function below that is not `static inline`: a call returns 0 or a refusal's number. A refusal writes nothing. What
+ * is lent as `const` is only read, and nothing past its length; what is written stands at the start of what is lent, and the
+ * bytes after it stay. Nothing that is lent may overlap; a null pointer is allowed where the length is 0. Nothing is allocated
+ * or kept between calls, so they are reentrant, and each one ends. How many bytes of stack suffice is said for each. */
 #ifndef PUMDALIN_H
 #define PUMDALIN_H
 
 #include <stddef.h>
 #include <stdint.h>
 
+#define PUMDALIN_VERSION_MAJOR 0
+#define PUMDALIN_VERSION_MINOR 2
+#define PUMDALIN_VERSION_PATCH 0
+#define PUMDALIN_VERSION "0.2.0"
+
 #ifdef __cplusplus
 extern "C" {
 #endif
 
-/* What pumdalin_figures returns: 0, or why there are no figures. */
+/* What a call returns: 0, or why there is no answer. */
 enum pumdalin_refusal {
     PUMDALIN_ANSWERED = 0,
-    PUMDALIN_CUT_OFF = 1,         /* the sheet ends inside a record */
-    PUMDALIN_NO_SUCH_KIND = 2,    /* no kind of record has this number */
-    PUMDALIN_FIELD = 3,           /* a field is out of its range */
-    PUMDALIN_TOO_MANY_RECORDS = 4,/* more than 64 */
-    PUMDALIN_NESTING = 5,         /* a record that may not stand there, or something open at the end */
-    PUMDALIN_CEILING = 6,         /* a loop may make more than 2,048 trips at these parameters */
-    PUMDALIN_BUDGET = 7,          /* the budget is 0 or above 1,000,000 */
-    PUMDALIN_VISITS = 8,          /* the sheet takes more visits than the budget */
-    PUMDALIN_AREA = 9             /* the answer area has under 24 bytes */
+    PUMDALIN_CUT_OFF = 1,          /* the sheet ends inside a record */
+    PUMDALIN_NO_SUCH_KIND = 2,     /* no kind of record has this number */
+    PUMDALIN_FIELD = 3,            /* a field is out of its range */
+    PUMDALIN_TOO_MANY_RECORDS = 4, /* more than 64 */
+    PUMDALIN_NESTING = 5,          /* a record that may not stand there, or something open at the end */
+    PUMDALIN_CEILING = 6,          /* a loop may make more than 2,048 trips at these parameters */
+    PUMDALIN_BUDGET = 7,           /* the budget is 0 or above 1,000,000 */
+    PUMDALIN_VISITS = 8,           /* the sheet takes more visits than the budget */
+    PUMDALIN_AREA = 9,             /* the answer area is too short */
+    PUMDALIN_TEXT_BUFFER = 12,     /* the buffer is shorter than the text */
+    PUMDALIN_PARAMETER = 100       /* a parameter does not fit 16 bits; only pumdalin_figures_checked returns it */
 };
 
-enum { PUMDALIN_AREA_LENGTH = 24 };
+enum {
+    PUMDALIN_AREA_LENGTH = 24,       /* bytes of the area that takes figures */
+    PUMDALIN_LENGTH_AREA_LENGTH = 8, /* bytes of the area that takes a text's length */
+    PUMDALIN_TEXT_LENGTH = 4049,     /* bytes that hold every text of pumdalin_text */
+    PUMDALIN_FIGURES_STACK = 10000,  /* bytes of stack that suffice for pumdalin_figures */
+    PUMDALIN_TEXT_STACK = 20000      /* and for pumdalin_text */
+};
 
-/* Returns 0 and stores least, most and visits, 8 bytes each, low byte first, in the first 24 bytes of
- * the area; what follows them stays. Otherwise it returns a refusal and leaves the area as it was.
- *
- * The sheet is only read, and nothing past its length. Sheet and area must not overlap, and neither
- * pointer may be null, even where its length is 0. Nothing is allocated or kept between calls; the
- * call is reentrant. It always ends: it works through at most budget + 1 visits, each of which passes
- * at most 64 records. 10 KB of stack suffice. */
+/* Stores least, most and visits, 8 bytes each, low byte first, in the first 24 bytes of the area. 9 comes before every other
+ * refusal, 7 before 1 to 6, these before 8. It works through at most budget + 1 visits, each of which passes at most 64
+ * records. */
 uint32_t pumdalin_figures(const uint8_t *sheet, size_t sheet_length,
                           int16_t p1, int16_t p2, int16_t p3, int16_t p4,
                           uint32_t budget,
                           uint8_t *answer, size_t answer_length);
+
+/* Stores what the program `bound` prints for this input: four parameters of 2 bytes each, a budget of 4 bytes, and the sheet,
+ * low bytes first. The text goes into the buffer, its length, 8 bytes, low byte first, into the area. A refusal of the sheet
+ * is text too: the call itself refuses 9 for an area of under 8 bytes, and then 12 for a buffer that is shorter than the
+ * text. */
+uint32_t pumdalin_text(const uint8_t *input, size_t input_length,
+                       uint8_t *text, size_t text_length,
+                       uint8_t *answer, size_t answer_length);
+
+/* The number of 8 bytes with this index in an answer area. */
+static inline uint64_t pumdalin_number(const uint8_t *answer, size_t index)
+{
+    uint64_t number = 0;
+    size_t at = 8;
+    while (at-- > 0)
+        number = number << 8 | answer[8 * index + at];
+    return number;
+}
+
+/* The figures that an area holds after pumdalin_figures returned 0. */
+static inline uint64_t pumdalin_least(const uint8_t *answer)
+{
+    return pumdalin_number(answer, 0);
+}
+
+static inline uint64_t pumdalin_most(const uint8_t *answer)
+{
+    return pumdalin_number(answer, 1);
+}
+
+static inline uint64_t pumdalin_visits(const uint8_t *answer)
+{
+    return pumdalin_number(answer, 2);
+}
+
+/* What a call returned, in words. */
+static inline const char *pumdalin_words(uint32_t number)
+{
+    switch (number) {
+    case PUMDALIN_ANSWERED: return "answered";
+    case PUMDALIN_CUT_OFF: return "the sheet ends inside a record";
+    case PUMDALIN_NO_SUCH_KIND: return "no kind of record has this number";
+    case PUMDALIN_FIELD: return "a field of a record is out of its range";
+    case PUMDALIN_TOO_MANY_RECORDS: return "the sheet has more than 64 records";
+    case PUMDALIN_NESTING: return "a record may not stand where it does, or something is open at the sheet's end";
+    case PUMDALIN_CEILING: return "a loop may make more than 2,048 trips at these parameters";
+    case PUMDALIN_BUDGET: return "the budget is 0 or above 1,000,000";
+    case PUMDALIN_VISITS: return "the sheet takes more visits than the budget";
+    case PUMDALIN_AREA: return "the answer area is too short";
+    case PUMDALIN_TEXT_BUFFER: return "the buffer is shorter than the text";
+    case PUMDALIN_PARAMETER: return "a parameter does not fit 16 bits";
+    default: return "no number that a call returns";
+    }
+}
+
+/* Whether a parameter keeps its value in 16 bits. */
+static inline int pumdalin_is_parameter(int64_t value)
+{
+    return INT16_MIN <= value && value <= INT16_MAX;
+}
+
+/* pumdalin_figures for parameters that are held as signed numbers of up to 64 bits: one outside 16 bits, which C would cut to
+ * another value for the call itself, is refused with PUMDALIN_PARAMETER before anything else. */
+static inline uint32_t pumdalin_figures_checked(const uint8_t *sheet, size_t sheet_length,
+                                                int64_t p1, int64_t p2, int64_t p3, int64_t p4,
+                                                uint32_t budget,
+                                                uint8_t *answer, size_t answer_length)
+{
+    if (!pumdalin_is_parameter(p1) || !pumdalin_is_parameter(p2) || !pumdalin_is_parameter(p3) || !pumdalin_is_parameter(p4))
+        return PUMDALIN_PARAMETER;
+    return pumdalin_figures(sheet, sheet_length, (int16_t)p1, (int16_t)p2, (int16_t)p3, (int16_t)p4, budget,
+                            answer, answer_length);
+}
 
 #ifdef __cplusplus
 }

@@ -1,86 +1,136 @@
 """The cases on which agreement.py compares: of listings, kept ones, and random ones."""
 
+from dataclasses import replace
 from itertools import cycle
 from pathlib import Path
 from random import Random
 from typing import Iterator, NamedTuple
 
 import readings
-from call_cases import C_CALL_CASES
-from calls import ANSWER_LENGTH, Answer, answer, called, program_input
+from agreement_calls import Call, FiguresCall, TextCall
+from call_cases import C_CALL_CASES, TEXT_CALL_CASES, TEXT_CASES
+from calls import ANSWER_LENGTH, TEXT_AREA_LENGTH, answer, answer_text, program_text, reports
 from figure_cases import with_edges
 from generate import SIZES, Case, cases
-from listing_reader import read_listing
-from nest import encode_parameters
+from pumdalin.answers import Answer
+from pumdalin.characters import decoded
+from pumdalin.errors import ListingError
+from pumdalin.inputs import program_input
+from pumdalin.listing_reader import read_listing
 
-# What stands before and after the area; answers.c has the same length.
-GUARD = bytes(range(0x51, 0x61))
-NUMBER_LENGTH = 4
 
-
-class Call(NamedTuple):
-    """A C call: the case, the area that is lent, and the answer of the library call."""
+class Expected(NamedTuple):
+    """A case and its answer."""
 
     tells: str
     case: Case
-    area: bytes
-    expected: Answer
+    answer: Answer
 
-    def question(self) -> bytes:
-        """The call as answers.c reads it."""
-        numbers = (self.case.budget, len(self.case.sheet), len(self.area))
-        header = encode_parameters(self.case.parameters)
-        header += b"".join(n.to_bytes(NUMBER_LENGTH, "little") for n in numbers)
-        return header + self.case.sheet + GUARD + self.area + GUARD
+    def figures_call(self, area: bytes) -> FiguresCall:
+        return FiguresCall(self.tells, self.case, area, self.answer)
 
-    def reply(self) -> bytes:
-        """What answers.c writes if the call does as it should."""
-        number, area = called(self.expected, self.area)
-        return number.to_bytes(NUMBER_LENGTH, "little") + self.case.sheet + GUARD + area + GUARD
+    def text_call(self) -> TextCall:
+        _, sheet, parameters, budget = self.case
+        text = answer_text(self.answer, reports(sheet, parameters))
+        return sufficient_text_call(self.tells, program_input(sheet, parameters, budget), text)
 
 
-def listing_calls(path: Path) -> list[Call]:
-    """What a listing expects, line by line."""
-    listing = read_listing(path.read_text(encoding="utf-8"))
-    calls: list[Call] = []
+class Trial(NamedTuple):
+    """The library's calls on a case, and the one of them whose input `bound` reads too."""
+
+    calls: list[Call]
+    text: TextCall
+
+
+def sufficient_text_call(tells: str, data: bytes, text: bytes) -> TextCall:
+    """With just as much buffer and area as it takes."""
+    return TextCall(tells, data, bytes(len(text)), bytes(TEXT_AREA_LENGTH), text)
+
+
+def trial(expected: Expected, area: bytes = bytes(ANSWER_LENGTH)) -> Trial:
+    """Both calls on a case."""
+    text = expected.text_call()
+    return Trial([expected.figures_call(area), text], text)
+
+
+def listing_cases(path: Path) -> list[Expected]:
+    """What a listing expects, line by line; a ValueError says where it has a mistake."""
+    try:
+        listing = read_listing(decoded(path.read_bytes()))
+    except ListingError as error:
+        raise ValueError(f"{path}:{error}") from error
+    found: list[Expected] = []
     for said in listing.expectations:
         case = Case("listing", listing.sheet(), said.parameters, said.budget)
-        calls.append(Call(f"{path}:{said.line}", case, bytes(ANSWER_LENGTH), said.answer))
-    return calls
+        found.append(Expected(f"{path}:{said.line}", case, said.answer))
+    return found
 
 
-def kept_calls() -> list[Call]:
-    """The readings, the telling sheets, and the cases of the C call."""
-    calls: list[Call] = []
+def kept_trials() -> list[Trial]:
+    """The readings, the telling sheets, and the cases of both C calls and of `bound`."""
+    trials: list[Trial] = []
     for line in readings.parse_file(readings.READINGS) + readings.parse_file(readings.TELLING):
         case = Case("reading", line.sheet, line.parameters, line.budget)
-        calls.append(Call(f"reading '{line.tells}'", case, bytes(ANSWER_LENGTH), line.answer))
+        trials.append(trial(Expected(f"reading '{line.tells}'", case, line.answer)))
     for kept in C_CALL_CASES:
         given = (kept.sheet, kept.parameters, kept.budget)
-        tells = f"C call '{kept.tells}'"
-        calls.append(Call(tells, Case("call", *given), kept.area, answer(*given)))
-    return calls
+        expected = Expected(f"C call '{kept.tells}'", Case("call", *given), answer(*given))
+        trials.append(trial(expected, kept.area))
+    return trials + [Trial([text], text) for text in kept_texts()]
 
 
-def random_calls(seed: int) -> Iterator[Call]:
-    """Calls without end: valid, damaged and hostile sheets of all sizes."""
+def kept_texts() -> list[TextCall]:
+    """The cases of `bound` and those of the text call."""
+    texts: list[TextCall] = []
+    for printed in TEXT_CASES:
+        text = program_text(printed.data)
+        texts.append(sufficient_text_call(f"text '{printed.tells}'", printed.data, text))
+    for kept in TEXT_CALL_CASES:
+        tells, data, buffer, area = kept
+        texts.append(TextCall(f"text call '{tells}'", data, buffer, area, program_text(data)))
+    return texts
+
+
+def random_trials(seed: int) -> Iterator[Trial]:
+    """Trials without end: valid, damaged and hostile sheets of all sizes."""
     random = Random(seed)
     number = 0
     for size in cycle(SIZES.values()):
         for case in cases(random, 1, size):
-            for edge, expected in with_edges(case):
+            for edge, result in with_edges(case):
                 number += 1
                 tells = f"seed {seed}, case {number}: a {case.kind} sheet"
-                yield Call(tells, edge, random_area(random), expected)
+                yield random_trial(random, Expected(tells, edge, result))
 
 
-def random_area(random: Random) -> bytes:
+def random_trial(random: Random, expected: Expected) -> Trial:
+    """Both calls on a case; what is lent to them does not always suffice."""
+    figures = expected.figures_call(random_area(random, ANSWER_LENGTH))
+    text = random_text_call(random, expected.text_call())
+    return Trial([figures, text], text)
+
+
+def random_text_call(random: Random, plain: TextCall) -> TextCall:
+    data = random_input(random, plain.data)
+    text = plain.text if data == plain.data else program_text(data)
+    return replace(plain, data=data, text=text, buffer=random_buffer(random, len(text)),
+                   area=random_area(random, TEXT_AREA_LENGTH))
+
+
+def random_input(random: Random, data: bytes) -> bytes:
+    """Mostly as it is; now and then with bytes after the sheet, or cut off."""
+    longer = data + random.randbytes(random.randrange(2000))
+    shorter = data[:random.randrange(len(data))]
+    return random.choice([data] * 8 + [longer, shorter])
+
+
+def random_area(random: Random, enough: int) -> bytes:
     """Mostly just long enough; now and then longer, or too short."""
-    longer, shorter = ANSWER_LENGTH + random.randrange(1, 20), random.randrange(ANSWER_LENGTH)
-    return random.randbytes(random.choice([ANSWER_LENGTH] * 6 + [longer, shorter]))
+    longer, shorter = enough + random.randrange(1, 20), random.randrange(enough)
+    return random.randbytes(random.choice([enough] * 6 + [longer, shorter]))
 
 
-def random_input(random: Random, case: Case) -> bytes:
-    """What `bound` reads of a case, now and then with bytes after the sheet."""
-    data = program_input(case.sheet, case.parameters, case.budget)
-    return random.choice([data] * 8 + [data + random.randbytes(random.randrange(2000))])
+def random_buffer(random: Random, text_length: int) -> bytes:
+    """Mostly longer than the text; now and then just as long, one byte short, or empty."""
+    longer = text_length + random.randrange(1, 200)
+    return random.randbytes(random.choice([longer] * 6 + [text_length, text_length - 1, 0]))

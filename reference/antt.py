@@ -2,9 +2,9 @@
 
 from typing import NamedTuple, Optional
 
-from calls import Answer, Figures
-from nest import LoopReport, Parameters
-from records import Choice, End, Form, Loop, NextArm, Record, Work
+from pumdalin.answers import Answer, Figures, LoopReport
+from pumdalin.inputs import Parameters
+from pumdalin.records import Choice, End, Form, Loop, NextArm, Record, Work
 from sheet import RawRecord
 
 # What is on the left is used in this folder, what is on the right is written.
@@ -48,6 +48,8 @@ NAME = {
     "sheet end": "sheetEnd",
     "text": "programText",
     "characters": "text",
+    "text call": "textCall",
+    "text called": "textCalled",
     "figure limit": "figureLimit",
     "visits per loop": "visitsPerLoop",
     "input limit": "inputLimit",
@@ -107,7 +109,8 @@ IMPORTS = {
         SPECS + "CCall.{cCall}",
         SPECS + "Text.{text}",
         SPECS + "Program.{programText}",
-        PROOFS + "Vocabulary.{hex, zeroParameters, form, raw, written, notWritten, called, found, sheetEnd}",
+        SPECS + "TextCall.{textCall}",
+        PROOFS + "Vocabulary.{hex, zeroParameters, form, raw, written, notWritten, called, textCalled, found, sheetEnd}",
         PROOFS + "Computes.{computes}",
     ],
 }

@@ -1,12 +1,13 @@
-"""Cases of the C call, the record reader and the program."""
+"""Cases of the C calls, the record reader and the program."""
 
 from typing import NamedTuple
 
 import calls
 import known
 from known import ZERO, form, loop, span
-from nest import Parameters
-from records import Choice, End, NextArm, Work, encode, encode_all
+from pumdalin import inputs
+from pumdalin.inputs import Parameters
+from pumdalin.records import Choice, End, NextArm, Work, encode, encode_all
 
 TRIANGLE = encode_all(known.TRIANGLE)
 UNEVEN = encode_all(known.UNEVEN)
@@ -89,7 +90,7 @@ class TextCase(NamedTuple):
 
 def program_input(sheet: bytes, parameters: Parameters = ZERO, budget: int = 100) -> bytes:
     """The program's input; parameters 0 and budget 100 unless said."""
-    return calls.program_input(sheet, parameters, budget)
+    return inputs.program_input(sheet, parameters, budget)
 
 
 PARAMETERS_SHEET = encode_all([
@@ -112,4 +113,50 @@ TEXT_CASES = [
     TextCase("parameters in order, signed", program_input(PARAMETERS_SHEET, (-5, 4, -300, 20))),
     TextCase("parameters 2 and 4 negative", program_input(PARAMETERS_SHEET, (5, -4, -300, -20))),
     TextCase("a large figure", program_input(WIDE)),
+]
+
+
+class TextCallCase(NamedTuple):
+    tells: str
+    data: bytes
+    buffer: bytes
+    area: bytes
+
+
+def text_call_case(
+    tells: str, data: bytes, spare: int = 0, area_length: int = calls.TEXT_AREA_LENGTH
+) -> TextCallCase:
+    """The call with a buffer that has so many bytes more than the text, or fewer."""
+    text_length = len(calls.program_text(data))
+    return TextCallCase(tells, data, b"\xbb" * (text_length + spare), area(area_length))
+
+
+PRINTED = program_input(TRIANGLE)
+REFUSED = program_input(ONE_WORK + b"\x06")
+MOST_LINES = program_input(encode_all([span(0, 2047, start=4095, step=4095), End()] * 32))
+TOO_LONG = program_input(b"\x04\x03" * 1000)
+
+TEXT_CALL_CASES = [
+    text_call_case("buffer as long as the text", PRINTED),
+    text_call_case("buffer one byte short", PRINTED, spare=-1),
+    TextCallCase("no buffer", PRINTED, b"", area(8)),
+    text_call_case("buffer five bytes longer: they stay", PRINTED, spare=5),
+    text_call_case("area of 11 bytes: the last three stay", PRINTED, area_length=11),
+    text_call_case("area of 7 bytes", PRINTED, area_length=7),
+    text_call_case("no area", PRINTED, area_length=0),
+    text_call_case("9 before 12", PRINTED, spare=-1, area_length=7),
+    TextCallCase("neither buffer nor area: 9", PRINTED, b"", b""),
+    TextCallCase("12 with an area of 11 bytes: all stay", PRINTED, b"", area(11)),
+    text_call_case("a refusal is text", REFUSED, spare=2),
+    text_call_case("a refusal is text, buffer one byte short", REFUSED, spare=-1),
+    text_call_case("budget 0 is text", program_input(TRIANGLE, ZERO, 0)),
+    text_call_case("empty sheet", program_input(b"")),
+    text_call_case("11 bytes of input", PRINTED[:11]),
+    text_call_case("11 bytes of input, buffer one byte short", PRINTED[:11], spare=-1),
+    text_call_case("no input", b"", spare=3),
+    TextCallCase("no input and no buffer: 12", b"", b"", area(8)),
+    TextCallCase("nothing at all: 9", b"", b"", b""),
+    text_call_case("a line for each of 32 loops", MOST_LINES),
+    text_call_case("a line for each of 32 loops, buffer one byte short", MOST_LINES, spare=-1),
+    text_call_case("more input than bound reads", TOO_LONG),
 ]

@@ -1,35 +1,27 @@
-"""The library call, the C call and the text of `bound`."""
+"""The library call, the C calls and the text of `bound`."""
 
-from typing import NamedTuple, Union
+from typing import NamedTuple
 
 import stages
 import trips
-from nest import LoopReport, Parameters, accepted, encode_parameters, loop_reports
-from records import PARAMETERS, Record, Refusal, signed, unsigned
+from nest import accepted, loop_reports
+from pumdalin.answers import Answer, Figures, LoopReport, Refusal
+from pumdalin.inputs import HEADER_LENGTH, LARGEST_BUDGET, Parameters, from_input
+from pumdalin.records import Record
 from sheet import read
 from trips import Bounds, TooMany
 
-BUDGET_LIMIT = 1_000_000
 ANSWER_LENGTH = 24
-HEADER_LENGTH = 12
+TEXT_AREA_LENGTH = 8
 INPUT_LIMIT = 1613
 
 # Up to so many trips the figures come from going over every trip.
 TRIP_LIMIT = 4_000
 
 
-class Figures(NamedTuple):
-    least: int
-    most: int
-    visits: int
-
-
-Answer = Union[Figures, Refusal]
-
-
 def answer(sheet: bytes, parameters: Parameters, budget: int) -> Answer:
     """The library call: 7; 1 to 5; 6; 8; or the figures."""
-    if not 1 <= budget <= BUDGET_LIMIT:
+    if not 1 <= budget <= LARGEST_BUDGET:
         return Refusal(7, 0)
     records = accepted(sheet, parameters)
     if isinstance(records, Refusal):
@@ -53,7 +45,7 @@ def times(records: list[Record], parameters: Parameters) -> Bounds:
         return trips.time(records, parameters, TRIP_LIMIT)
     except TooMany:
         nest = stages.nest_from(records, parameters)
-        return stages.run_stages(nest, BUDGET_LIMIT).current
+        return stages.run_stages(nest, LARGEST_BUDGET).current
 
 
 def reports(sheet: bytes, parameters: Parameters) -> list[LoopReport]:
@@ -86,17 +78,6 @@ def called(result: Answer, area: bytes) -> Called:
     return Called(0, written + area[ANSWER_LENGTH:])
 
 
-def program_input(sheet: bytes, parameters: Parameters, budget: int) -> bytes:
-    """What `bound` reads: four parameters of 2 bytes, the budget of 4, the sheet."""
-    return encode_parameters(parameters) + budget.to_bytes(4, "little") + sheet
-
-
-def from_input(data: bytes) -> tuple[bytes, Parameters, int]:
-    """Sheet, parameters and budget of an input that has its first 12 bytes."""
-    parameters = tuple(signed(data[2 * i:2 * i + 2]) for i in range(PARAMETERS))
-    return data[HEADER_LENGTH:], parameters, unsigned(data[8:HEADER_LENGTH])
-
-
 def program_text(data: bytes) -> bytes:
     """What `bound` prints for its standard input."""
     data = data[:INPUT_LIMIT]
@@ -113,3 +94,26 @@ def answer_text(result: Answer, loops: list[LoopReport]) -> bytes:
     lines = [f"best {result.least} worst {result.most} visits {result.visits}\n"]
     lines += [f"loop {report.text()}\n" for report in loops]
     return "".join(lines).encode()
+
+
+class TextCalled(NamedTuple):
+    """The text call's number, and the whole buffer and area after it."""
+
+    number: int
+    buffer: bytes
+    area: bytes
+
+
+def text_call(data: bytes, buffer: bytes, area: bytes) -> TextCalled:
+    """The C call that stores what `bound` prints for the same input."""
+    return text_called(program_text(data), buffer, area)
+
+
+def text_called(text: bytes, buffer: bytes, area: bytes) -> TextCalled:
+    """9 comes before 12, and both write nothing; a refusal of the sheet is text like any other."""
+    if len(area) < TEXT_AREA_LENGTH:
+        return TextCalled(9, buffer, area)
+    if len(buffer) < len(text):
+        return TextCalled(12, buffer, area)
+    length = len(text).to_bytes(TEXT_AREA_LENGTH, "little")
+    return TextCalled(0, text + buffer[len(text):], length + area[TEXT_AREA_LENGTH:])

@@ -5,9 +5,11 @@ from random import Random
 
 import stages
 import trips
-from calls import Figures, answer
-from nest import LoopFacts, Parameters, facts, loop_reports, subtract, value
-from records import Form, Loop, Record, Refusal, Work, encode_all
+from calls import answer
+from nest import LoopFacts, facts, loop_reports, subtract, value
+from pumdalin.answers import Figures, Refusal
+from pumdalin.inputs import Parameters
+from pumdalin.records import Form, Loop, Record, Work, encode_all
 from sheet import BLANK, RawRecord, Written, raw, read, write
 from tree import Body, ChoiceNode, LoopNode, loops_directly_in, loops_in, tree
 from trips import Bounds, TooMany

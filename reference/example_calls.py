@@ -1,15 +1,19 @@
-"""Calls.antt: the writer, the C call, the record reader, the program's text, three numbers."""
+"""Calls.antt: the writer, the C calls, the record reader, the program's text, three numbers."""
 
 import antt
 from antt import Equation, inner, listed, octets, term
-from call_cases import C_CALL_CASES, READER_CASES, TEXT_CASES
-from calls import INPUT_LIMIT, c_call, program_text
+from call_cases import C_CALL_CASES, READER_CASES, TEXT_CALL_CASES, TEXT_CASES
+from calls import INPUT_LIMIT, c_call, program_text, text_call
 from consistency import FIGURE_LIMIT, VISITS_PER_LOOP
-from records import Form, Refusal
+from pumdalin.answers import Refusal
+from pumdalin.records import Form
 from sheet import Part, record_at, write
 from writer_cases import (
     CHOICE_ENTRY, END_ENTRY, LOOP_ENTRY, NEXT_ENTRY, WORK_ENTRY, WRITER_CASES, RawRecord,
 )
+
+# Longer inputs are left to the stored cases: the checker has to compute the examples.
+LONGEST_INPUT = 100
 
 # Entries that come often get a name; so does the form with nothing in it.
 NO_FORM = "noForm"
@@ -90,6 +94,17 @@ def text_equations() -> list[Equation]:
     return found
 
 
+def text_call_equations() -> list[Equation]:
+    found: list[Equation] = []
+    for case in TEXT_CALL_CASES:
+        if len(case.data) <= LONGEST_INPUT:
+            given = [octets(case.data), octets(case.buffer), octets(case.area)]
+            number, buffer, area = text_call(case.data, case.buffer, case.area)
+            right = term("text called", str(number), octets(buffer), octets(area))
+            found.append(Equation(case.tells, term("text call", *given), right))
+    return found
+
+
 def number_equations() -> list[Equation]:
     """Numbers of the requirement that stand in theorems and that no case meets."""
     return [
@@ -106,7 +121,8 @@ def calls_file(group: int) -> str:
     parts += antt.grouped("c-call", call_equations(), group)
     parts += antt.grouped("record-reader", reader_equations(), group)
     parts += antt.grouped("program-text", text_equations(), group)
+    parts += antt.grouped("text-call", text_call_equations(), group)
     parts += antt.grouped("numbers", number_equations(), group)
-    comments = ["The writer, the C call, the record reader and the program's text, by cases.",
+    comments = ["The writer, the C calls, the record reader and the program's text, by cases.",
                 "Last three numbers that only theorems name."]
     return antt.file_text("Calls.antt", comments, parts)

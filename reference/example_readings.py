@@ -7,10 +7,10 @@ import antt
 import readings
 import trips
 from antt import Equation, octets, term
-from calls import Answer, Figures, reports
+from calls import reports
 from known import MARKED
-from nest import Parameters
-from records import Refusal
+from pumdalin.answers import Answer, Figures, Refusal
+from pumdalin.inputs import Parameters
 from sheet import read
 
 

@@ -7,8 +7,8 @@ import known
 import stages
 from antt import Equation, inner, listed, term
 from known import END, UNIT, ZERO, form, loop, span
-from nest import Parameters
-from records import Choice, Loop, NextArm, Record, Work, encode_all
+from pumdalin.inputs import Parameters
+from pumdalin.records import Choice, Loop, NextArm, Record, Work, encode_all
 from stages import ChoiceFrame, Frame, LoopFrame, Nest, State
 from trips import Bounds
 

@@ -10,10 +10,11 @@ and the 24 bytes of the answer area: least, most and visits, or zeros.
 
 from random import Random
 
-from calls import Answer, Figures, answer
+from calls import answer
 from generate import SIZES, Case, cases
 from kept import kept_cases
-from nest import encode_parameters
+from pumdalin.answers import Answer, Figures
+from pumdalin.inputs import encode_parameters
 from stored import main, numbers
 
 SEED = 2051

@@ -10,12 +10,12 @@ import sys
 from random import Random
 from typing import NamedTuple
 
-from calls import Figures, answer, reports
+from calls import answer, reports
 from hostile import hostile_sheet
-from nest import Parameters
-from records import (
-    COST_LIMIT, MOST_OPEN, MOST_RECORDS,
-    Choice, End, Form, Loop, NextArm, Record, Work, encode_all,
+from pumdalin.answers import Figures
+from pumdalin.inputs import Parameters
+from pumdalin.records import (
+    COST_LIMIT, MOST_OPEN, MOST_RECORDS, Choice, End, Form, Loop, NextArm, Record, Work, encode_all,
 )
 
 

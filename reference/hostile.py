@@ -2,9 +2,9 @@
 
 from random import Random
 
-from records import (
-    COST_LIMIT, MOST_LOOPS_DEEP, MOST_OPEN, STRIDE_MOST,
-    Choice, End, Form, Loop, NextArm, Record, Work, encode,
+from pumdalin.records import (
+    COST_LIMIT, MOST_LOOPS_DEEP, MOST_OPEN, STRIDE_MOST, Choice, End, Form, Loop, NextArm, Record,
+    Work, encode,
 )
 
 

@@ -2,11 +2,9 @@
 
 from typing import NamedTuple
 
-from calls import Answer, Figures
-from nest import Parameters
-from records import (
-    Choice, End, Form, Loop, NextArm, Record, Refusal, Work, encode_all,
-)
+from pumdalin.answers import Answer, Figures, Refusal
+from pumdalin.inputs import Parameters
+from pumdalin.records import Choice, End, Form, Loop, NextArm, Record, Work, encode_all
 
 
 def form(constant: int = 0, i: int = 0, j: int = 0, k: int = 0, p: tuple[int, ...] = ()) -> Form:

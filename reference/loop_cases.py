@@ -14,8 +14,9 @@ from random import Random
 import generate
 from generate import SIZES, cases
 from kept import kept_cases
-from nest import LoopReport, Parameters, accepted, encode_parameters, loop_reports
-from records import Refusal
+from nest import accepted, loop_reports
+from pumdalin.answers import LoopReport, Refusal
+from pumdalin.inputs import Parameters, encode_parameters
 from stored import main, numbers
 
 SEED = 2050

@@ -2,17 +2,11 @@
 
 from typing import NamedTuple, Optional, Union
 
-from records import CEILING_LIMIT, Form, Loop, Record, Refusal, offsets
+from pumdalin.answers import LoopReport, Refusal
+from pumdalin.inputs import Parameters
+from pumdalin.records import CEILING_LIMIT, Form, Loop, Record, offsets
 from sheet import read
 from tree import Body, LoopNode, has_choice_with_loop, height, loops_directly_in, loops_in, tree
-
-Parameters = tuple[int, int, int, int]
-
-
-def encode_parameters(parameters: Parameters) -> bytes:
-    """2 bytes each, low byte first."""
-    return b"".join(value.to_bytes(2, "little", signed=True) for value in parameters)
-
 
 class Range(NamedTuple):
     smallest: int
@@ -71,17 +65,6 @@ class LoopFacts(NamedTuple):
     ceiling: int
     closed: bool
     height: int
-
-
-class LoopReport(NamedTuple):
-    """A line of `bound` for a loop."""
-
-    offset: int
-    closed: bool
-    ceiling: int
-
-    def text(self) -> str:
-        return f"{self.offset} {'closed' if self.closed else 'walked'} ceiling {self.ceiling}"
 
 
 def facts(records: list[Record], parameters: Parameters) -> dict[int, LoopFacts]:

@@ -11,8 +11,8 @@ from typing import NamedTuple
 import trips
 from chart import Axis, Band, Chart, Entry, Frame, Line, Point, Style, draw, picture
 from known import END, UNIT, form, loop
-from nest import Parameters
-from records import Choice, Form, NextArm, Record, Work
+from pumdalin.inputs import Parameters
+from pumdalin.records import Choice, Form, NextArm, Record, Work
 from stored import main
 
 LARGEST_PARAMETER = 24

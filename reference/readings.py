@@ -9,9 +9,9 @@ A line: four parameters, budget, sheet in hex (- if empty), `=>`, then
 import os
 from typing import NamedTuple
 
-from calls import Answer, Figures
-from nest import Parameters
-from records import Refusal
+from pumdalin.answers import Answer, Figures, Refusal
+from pumdalin.inputs import Parameters
+
 
 HERE = os.path.dirname(os.path.abspath(__file__))
 READINGS = os.path.join(HERE, "readings.txt")

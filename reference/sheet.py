@@ -2,13 +2,12 @@
 
 from typing import NamedTuple, Optional, Union
 
-from records import (
-    BODY_LENGTH, CHOICE, COST_LIMIT, END, KIND_OF, LOOP, MOST_LOOPS_DEEP,
-    MOST_OPEN, MOST_RECORDS, NEXT_ARM, STRIDE_LEAST, STRIDE_MOST, WORK,
-    Form, Loop, Record, Refusal, Work, decode, encode_all, record_length,
+from pumdalin.answers import Refusal
+from pumdalin.records import (
+    BODY_LENGTH, CHOICE, COST_LIMIT, END, KIND_OF, LOOP, MOST_LOOPS_DEEP, MOST_OPEN, MOST_RECORDS,
+    NEXT_ARM, OPENS, STRIDE_LEAST, STRIDE_MOST, WORK, Form, Loop, Record, Work, decode, encode_all,
+    open_after, record_length,
 )
-
-OPENS = (LOOP, CHOICE)
 
 
 class Part(NamedTuple):
@@ -69,15 +68,6 @@ def in_place(kind: int, open_kinds: list[int]) -> bool:
     return True
 
 
-def after(kind: int, open_kinds: list[int]) -> list[int]:
-    """The kinds of what is open after a record, outermost first."""
-    if kind in OPENS:
-        return open_kinds + [kind]
-    if kind == END:
-        return open_kinds[:-1]
-    return open_kinds
-
-
 def read(sheet: bytes) -> Union[list[Record], Refusal]:
     """The records, or a refusal."""
     records, refusal = read_as_far(sheet)
@@ -101,7 +91,7 @@ def read_as_far(sheet: bytes) -> tuple[list[Record], Optional[Refusal]]:
             return records, Refusal(3, offset)
         if not in_place(found.kind, open_kinds):
             return records, Refusal(5, offset)
-        open_kinds = after(found.kind, open_kinds)
+        open_kinds = open_after(found.kind, open_kinds)
         records.append(record)
         offset = body_end
     return records, Refusal(5, len(sheet)) if open_kinds else None
@@ -164,7 +154,7 @@ def checked(entries: list[RawRecord], count: int) -> Union[list[Record], Refusal
             return Refusal(3, offset)
         if not in_place(entry.kind, open_kinds):
             return Refusal(5, offset)
-        open_kinds = after(entry.kind, open_kinds)
+        open_kinds = open_after(entry.kind, open_kinds)
         records.append(record)
         offset += record_length(record)
     if open_kinds:

@@ -22,7 +22,8 @@ import known
 import readings
 from generate import SIZES, damaged_sheet, valid_records
 from hostile import hostile_sheet
-from records import Refusal, encode_all, encode_form
+from pumdalin.answers import Refusal
+from pumdalin.records import encode_all, encode_form
 from sheet import RawRecord, raw, read, write
 from stored import main, numbers
 from writer_cases import WRITER_CASES, WriterCase

@@ -17,8 +17,9 @@ from typing import Iterator
 
 from generate import SIZES, Case, parameters, valid_records
 from kept import kept_cases
-from nest import encode_parameters
-from records import Refusal, encode_all
+from pumdalin.answers import Refusal
+from pumdalin.inputs import encode_parameters
+from pumdalin.records import encode_all
 from stages import Nest, State, at_end, first_state, nest_of, next_state
 from stored import main, numbers
 from tree import has_choice_with_loop, height, loops_directly_in, tree

@@ -8,9 +8,11 @@ the first state reach are taken.
 from dataclasses import dataclass, replace
 from typing import Optional, Union
 
-from nest import LoopFacts, Parameters, accepted, facts
+from nest import LoopFacts, accepted, facts
 from newton import newton_sum
-from records import Choice, End, Loop, NextArm, Record, Refusal, Work
+from pumdalin.answers import Refusal
+from pumdalin.inputs import Parameters
+from pumdalin.records import Choice, End, Loop, NextArm, Record, Work
 from trips import NOTHING, Bounds, both, index_of, to_visit, trips_of
 
 

@@ -1,120 +1,124 @@
 """Tests of the comparison itself: it passes what is right and finds out what is wrong."""
 
-import contextlib
-import io
-import tempfile
 import unittest
+from functools import cache
+from itertools import islice
 from pathlib import Path
 from typing import Callable
+from unittest import mock
 
-import agreement
-from agreement import Difference, check_kept, check_listing, check_random
-from agreement_cases import GUARD, NUMBER_LENGTH
-from calls import Called, c_call, from_input, program_text
-from records import unsigned
+from agreement import listings_in
+from agreement_calls import FiguresCall, TextCall
+from agreement_cases import Expected, Trial, kept_trials, listing_cases, random_trials
+from agreement_checks import Difference, Tool, Unusable, check_listing, check_trials
+from asking import Ask, Outcome, program_at
+from calls import program_text
+from stand_in import FolderCase, Made, flipped, replies_to, shell_program
 
 EXAMPLES = Path(__file__).parent.parent / "examples" / "listings"
-CASES = 40
+CASES = 60
 SEED = 5
 
-# A sheet, the call's number and what follows the sheet, each as it is after the call.
-After = tuple[bytes, Called, bytes]
+
+@cache
+def trials() -> list[Trial]:
+    return list(islice(random_trials(SEED), CASES))
 
 
-def right(sheet: bytes, called: Called) -> After:
-    return sheet, called, GUARD
+def answering(program: Callable[[bytes], bytes]) -> Ask:
+    """A program that writes this, and ends as it should."""
+    return lambda data, reply_lengths: Outcome(program(data))
 
 
-def library(answers: Callable[[bytes, Called], After]) -> agreement.Program:
-    """A stand-in for answers.c, from what is left after each call."""
-    def run(data: bytes) -> bytes:
-        replies = b""
-        while data:
-            header_length = 8 + 3 * NUMBER_LENGTH
-            _, parameters, budget = from_input(data)
-            sheet_length, area_length = unsigned(data[12:16]), unsigned(data[16:20])
-            block = data[header_length:header_length + sheet_length + area_length + 2 * len(GUARD)]
-            data = data[header_length + len(block):]
-            sheet, area = block[:sheet_length], block[sheet_length + len(GUARD):-len(GUARD)]
-            left, (number, area), after = answers(sheet, c_call(sheet, parameters, budget, area))
-            replies += number.to_bytes(NUMBER_LENGTH, "little") + left + GUARD + area + after
-        return replies
-    return run
+def library(spoil: Callable[[Made], None]) -> Ask:
+    return answering(lambda data: replies_to(data, spoil))
 
 
-def flipped(data: bytes, position: int) -> bytes:
-    """The same bytes but one, if there are so many."""
-    return bytes(byte ^ (1 if at == position else 0) for at, byte in enumerate(data))
-
-
-def wrong_figure(position: int) -> Callable[[bytes, Called], After]:
-    """Another byte of the figures."""
-    def answers(sheet: bytes, called: Called) -> After:
-        number, area = called
-        return sheet, Called(number, area if number else flipped(area, position)), GUARD
-    return answers
-
-
-def written_on_refusal(sheet: bytes, called: Called) -> After:
-    number, area = called
-    return sheet, Called(number, flipped(area, 0) if number else area), GUARD
-
-
-def other_refusal(sheet: bytes, called: Called) -> After:
-    number, area = called
-    return sheet, Called(5 if number == 3 else number, area), GUARD
-
-
-def written_past_the_area(sheet: bytes, called: Called) -> After:
-    return sheet, called, flipped(GUARD, 0)
-
-
-def written_sheet(sheet: bytes, called: Called) -> After:
-    return flipped(sheet, len(sheet) - 1), called, GUARD
+RIGHT = Tool(answering(replies_to), answering(program_text))
 
 
 def shown_by(check: Callable[..., object], *given: object) -> str:
     """What the comparison shows, or nothing where all agrees."""
     try:
-        with contextlib.redirect_stderr(io.StringIO()):
-            check(*given)
+        check(*given)
     except Difference as found:
         return str(found)
     return ""
 
 
+def other_refusal(made: Made) -> None:
+    made.number = 5 if made.number == 3 else made.number
+
+
+def buffer_before_area(made: Made) -> None:
+    """12 where it has to be 9."""
+    made.number = 12 if made.call == TextCall.number and made.number == 9 else made.number
+
+
 class RandomCases(unittest.TestCase):
-    def compare(self, tried: agreement.Program) -> str:
-        return shown_by(check_random, SEED, CASES, tried, None)
+    def compare(self, tried: Ask) -> str:
+        return shown_by(check_trials, Tool(tried, None), trials())
 
     def test_right(self) -> None:
-        self.assertEqual(self.compare(library(right)), "")
+        self.assertEqual(self.compare(RIGHT.library), "")
 
-    def test_wrong(self) -> None:
-        for answers, words in [
-            (wrong_figure(0), "library:  best "),
-            (wrong_figure(8), "library:  best "),
-            (wrong_figure(16), "library:  best "),
-            (wrong_figure(24), "the area from byte 24 on changed"),
-            (written_on_refusal, "the area from byte 0 on changed"),
-            (other_refusal, "reckoned: refused 3\nlibrary:  refused 5"),
-            (written_past_the_area, "bytes after the area changed"),
-            (written_sheet, "the sheet changed"),
-        ]:
-            shown = self.compare(library(answers))
-            self.assertIn(words, shown)
+    def check_found(self, spoil: Callable[[Made], None], words: str) -> None:
+        shown = self.compare(library(spoil))
+        with self.subTest(words):
+            self.assertRegex(shown, words)
             self.assertTrue(shown.startswith(f"differs: seed {SEED}, case "))
             self.assertIn("\nbudget ", shown)
 
+    def test_wrong_figures(self) -> None:
+        for block, position, words in [
+            (1, 0, "\nlibrary:  best "), (1, 8, "\nlibrary:  best "), (1, 16, "\nlibrary:  best "),
+            (1, 24, "the area from byte 24 on changed|bytes after the area changed"),
+            (1, -1, "bytes before the area changed"),
+            (0, 0, "the sheet from byte 0 on changed"),
+        ]:
+            self.check_found(flipped(FiguresCall, block, position), words)
+        self.check_found(flipped(FiguresCall, 1, 0, when_refused=True),
+                         "returned [1-9], the area from byte 0 on changed")
+        self.check_found(other_refusal, "reckoned: returned 3\nlibrary:  returned 5")
+
+    def test_wrong_text(self) -> None:
+        for block, position, words in [
+            (1, 0, "\nlibrary:  [0-9]+ bytes, b'"),
+            (2, 0, "\nlibrary:  [0-9]+ bytes, b'"),
+            (2, 7, "\nlibrary:  [0-9]{17} bytes, b'"),
+            (2, 8, "the area from byte 8 on changed|bytes after the area changed"),
+            (1, -1, "bytes before the text changed"),
+            (0, 0, "the input from byte 0 on changed"),
+        ]:
+            self.check_found(flipped(TextCall, block, position), words)
+        self.check_found(flipped(TextCall, 1, 0, when_refused=True),
+                         "returned (9|12), the text from byte 0 on changed")
+        self.check_found(buffer_before_area, "reckoned: returned 9\nlibrary:  returned 12")
+
     def test_too_little_and_too_much(self) -> None:
-        self.assertIn("library:  no answer", self.compare(lambda data: library(right)(data)[:-1]))
-        self.assertIn("more than", self.compare(lambda data: library(right)(data) + b"\0"))
+        shorter = answering(lambda data: replies_to(data)[:-1])
+        self.assertIn("\nlibrary:  no whole answer", self.compare(shorter))
+        longer = answering(lambda data: replies_to(data) + b"\0")
+        self.assertIn("when all is answered, writes more", self.compare(longer))
+
+
+class ShownReplies(unittest.TestCase):
+    def test_every_byte_shows(self) -> None:
+        """A reply that is wrong in one byte, wherever it is, is shown in other words."""
+        calls = [call for trial in kept_trials() for call in trial.calls]
+        shown_calls = [call for call in calls if "call '" in call.tells and len(call.reply()) < 300]
+        self.assertGreater(len(shown_calls), 50)
+        for call in shown_calls:
+            right = call.reply()
+            for at in range(len(right)):
+                wrong = right[:at] + bytes([right[at] ^ 1]) + right[at + 1:]
+                self.assertNotEqual(call.show(wrong), call.show(right), (call.tells, at))
 
 
 class BoundText(unittest.TestCase):
-    def compare(self, program: agreement.Program) -> str:
-        kept = shown_by(check_kept, library(right), program)
-        return kept or shown_by(check_random, SEED, CASES, library(right), program)
+    def compare(self, program: Callable[[bytes], bytes]) -> str:
+        tool = Tool(RIGHT.library, answering(program))
+        return shown_by(check_trials, tool, kept_trials() + trials())
 
     def test_right(self) -> None:
         self.assertEqual(self.compare(program_text), "")
@@ -127,32 +131,80 @@ class BoundText(unittest.TestCase):
             lambda data: program_text(data or bytes(12)),
             lambda data: program_text(data).splitlines(keepends=True)[0],
         ]:
-            self.assertIn("\nbound:    '", self.compare(program))
+            self.assertIn("\nbound:    b'", self.compare(program))
 
 
-class Listings(unittest.TestCase):
+class Failing(FolderCase):
+    """Programs that do not return, or end on the way: the call that does it is shown."""
+
+    # Long enough for a shell to start on a busy machine.
+    LIMIT = 0.5
+
+    def script(self, replies: bytes, then: str) -> Ask:
+        """A program that writes these replies and then does something else."""
+        path = self.folder / "replies"
+        path.write_bytes(replies)
+        return program_at(shell_program(self.folder, f"cat {path}\n{then}"), self.LIMIT)
+
+    def shown_after(self, answered: int, then: str) -> str:
+        """What is shown where so many of the calls are answered."""
+        calls = [call for trial in trials() for call in trial.calls]
+        replies = b"".join(call.reply() for call in calls[:answered])
+        return shown_by(check_trials, Tool(self.script(replies, then), None), trials())
+
+    def test_library(self) -> None:
+        for then, words in [
+            ("exec sleep 60", "did not return within 0.5 seconds"),
+            ("kill -SEGV $$", "was ended by signal 11, Segmentation fault"),
+            ("exit 2", "ended with exit status 2"),
+        ]:
+            for answered, call in [(4, trials()[2].calls[0]), (5, trials()[2].calls[1])]:
+                shown = self.shown_after(answered, then)
+                self.assertTrue(shown.startswith(f"differs: {call.heading()}\n"), shown)
+                self.assertIn(call.sheet_text(), shown)
+                self.assertTrue(shown.endswith(f"\nlibrary:  {words}"), shown)
+
+    def test_library_at_the_end(self) -> None:
+        shown = self.shown_after(2 * CASES, "kill -SEGV $$")
+        self.assertEqual(shown, "differs: the library's program, when all is answered, "
+                                "was ended by signal 11, Segmentation fault")
+
+    def test_bound(self) -> None:
+        asked = trials()[0]
+        program = self.script(asked.text.text, "exec sleep 60")
+        shown = shown_by(check_trials, Tool(RIGHT.library, program), [asked])
+        self.assertIn(asked.text.sheet_text(), shown)
+        self.assertTrue(shown.endswith("\nbound:    did not return within 0.5 seconds, "
+                                       f"after printing {asked.text.text!r}"), shown)
+
+
+class Listings(FolderCase):
     def test_examples(self) -> None:
         """Every example says what it expects, and the reckoning gives it trip by trip."""
-        paths = sorted(EXAMPLES.rglob("*.listing"))
-        self.assertGreater(len(paths), 0)
-        for path in paths:
-            with self.subTest(path.name):
-                self.assertGreater(check_listing(path, library(right), program_text), 0)
+        for listing in listings_in(str(EXAMPLES)):
+            self.assertGreater(len(listing), 0)
+            with self.subTest(listing[0].tells):
+                self.assertEqual(shown_by(check_listing, RIGHT, listing), "")
+
+    def listing(self, text: str) -> list[Expected]:
+        path = self.folder / "one.listing"
+        path.write_text(text, encoding="utf-8")
+        return listing_cases(path)
 
     def test_wrong_expectation(self) -> None:
-        shown = self.check_text("loop i 0..9\nwork 1\nend\nexpect 10 11 visits 1\n")
+        listing = self.listing("loop i 0..9\nwork 1\nend\nexpect 10 11 visits 1\n")
+        shown = shown_by(check_listing, RIGHT, listing)
         self.assertIn(":4\nparameters 0 0 0 0\n", shown)
         self.assertIn("expected: best 10 worst 11 visits 1\n"
                       "reckoned: best 10 worst 10 visits 1", shown)
 
-    def test_mistake(self) -> None:
-        self.assertIn(":1:6: write the work", self.check_text("work x"))
-
-    def check_text(self, text: str) -> str:
-        with tempfile.TemporaryDirectory() as folder:
-            path = Path(folder, "one.listing")
-            path.write_text(text, encoding="utf-8")
-            return shown_by(check_listing, path, library(right), program_text)
+    def test_too_many_trips(self) -> None:
+        listing = self.listing("loop i 0..9\nwork 1\nend\nexpect 10 10 visits 1\n")
+        with mock.patch("agreement_checks.MOST_TRIPS", 10):
+            check_listing(RIGHT, listing)
+        with mock.patch("agreement_checks.MOST_TRIPS", 9):
+            with self.assertRaisesRegex(Unusable, "one.listing:4: this makes more than 9 trips"):
+                check_listing(RIGHT, listing)
 
 
 if __name__ == "__main__":

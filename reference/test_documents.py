@@ -10,10 +10,12 @@ from typing import NamedTuple
 
 import known
 import picture
-from calls import c_call, program_text
-from listing import made
+from calls import answer, answer_text, c_call, program_text
 from nest import loop_reports
-from records import Form, Loop, Record, Work, encode, encode_all, signed, unsigned
+from pumdalin.answers import Figures, LoopReport
+from pumdalin.inputs import program_input
+from pumdalin.listing_reader import read_listing
+from pumdalin.records import MOST_RECORDS, Form, Loop, Record, Work, encode, encode_all, signed, unsigned
 
 HERE = os.path.dirname(os.path.abspath(__file__))
 ROOT = os.path.dirname(HERE)
@@ -118,23 +120,75 @@ class Format(unittest.TestCase):
         self.assertEqual([row.name for row in area], ["least", "most", "visits"])
         self.assertEqual([row.says for row in area], [numbers(unsigned(row.data)) for row in area])
 
+    def test_text(self) -> None:
+        (block,) = blocks_after(self.text, "The text call")
+        (length,) = rows_of(block)
+        text = program_text(program_input(encode_all(known.TRIANGLE), known.ZERO, 100))
+        self.assertEqual((length.name, unsigned(length.data), length.says), ("length", len(text), str(len(text))))
+        self.assertIn(f"the first {len(text)} bytes of the buffer", self.text)
+
 
 class WorkedExample(unittest.TestCase):
     def setUp(self) -> None:
         _, self.listing, self.printed = blocks_after(document("README.md"), "A worked example")
+        self.stored = document("examples", "listings", "firmware", "dispense.listing")
 
     def test_listing(self) -> None:
         """The README's listing is the one of the examples, but for its comments."""
-        stored = document("examples", "listings", "firmware", "dispense.listing")
-        lines = [line for line in stored.splitlines(keepends=True) if not line.startswith("#")]
+        lines = [line for line in self.stored.splitlines(keepends=True) if not line.startswith("#")]
         self.assertEqual(self.listing, "".join(lines))
 
     def test_printed(self) -> None:
-        with open(os.path.join(ROOT, "examples", "dispense.input"), "rb") as file:
-            data = file.read()
-        self.assertEqual(data, made(self.listing, True))
-        self.assertEqual(program_text(data).decode(), self.printed)
-        self.assertEqual(document("examples", "dispense.output"), self.printed)
+        """What the command prints is what `bound` does, with the lines and indexes of the loops."""
+        listing = read_listing(self.stored)
+        (expected,) = listing.expectations
+        data = program_input(listing.sheet(), expected.parameters, expected.budget)
+        text = program_text(data).decode()
+        self.assertEqual(document("examples", "dispense.output"), text)
+        figures, *loops = text.splitlines()
+        asked = "parameters 16 0 0 0 budget 100"
+        lines = [figures, asked]
+        for loop in loops:
+            _, offset, verdict = loop.split(" ", 2)
+            entry = listing.entry_at(int(offset))
+            lines.append(f"line {entry.line}: loop {'ij'[entry.loops_around]} {verdict}")
+        lines.append(f"line {expected.line}: as expected at {asked}: {figures}")
+        self.assertEqual(self.printed.splitlines(), lines)
+
+    def test_shown_elsewhere(self) -> None:
+        """The package's README and the manual show the same."""
+        (shown,) = blocks_after(document("packaging", "README.md"), "The command")
+        self.assertEqual(shown, self.printed)
+        self.assertIn(f".nf\n{self.printed}.fi\n", document("command", "pumdalin.1"))
+
+    def test_manual_listing(self) -> None:
+        """The manual's listing is this one with other comments, and that of docs/LISTINGS.md is a listing too."""
+        manual = document("command", "pumdalin.1").split(".SH LISTINGS")[1]
+        shown = read_listing(manual.split(".nf\n")[1].split(".fi\n")[0].replace("\\-", "-"))
+        stored = read_listing(self.stored)
+        self.assertEqual((shown.records, shown.given()), (stored.records, stored.given()))
+        self.assertEqual(shown.expectations[0].answer, stored.expectations[0].answer)
+        other, *_ = re.findall(r"^```\n(.*?)^```$", document("docs", "LISTINGS.md"), re.MULTILINE | re.DOTALL)
+        self.assertIsInstance(answer(read_listing(other).sheet(), (16, 0, 0, 0), 1_000_000), Figures)
+
+
+class Header(unittest.TestCase):
+    def setUp(self) -> None:
+        self.text = document("include", "pumdalin.h")
+
+    def test_version(self) -> None:
+        version = document("VERSION").strip()
+        self.assertIn(f'#define PUMDALIN_VERSION "{version}"', self.text)
+        for name, number in zip(("MAJOR", "MINOR", "PATCH"), version.split(".")):
+            self.assertIn(f"#define PUMDALIN_VERSION_{name} {number}\n", self.text)
+        self.assertIn(f"\n## {version}\n", document("CHANGELOG.md"))
+
+    def test_text_length(self) -> None:
+        """The longest figures line, and for each record the longest line of a loop."""
+        digits = len(str(2 ** 64 - 1))
+        figures = len(answer_text(Figures(0, 0, 0), [])) + 3 * (digits - 1)
+        loop = len(f"loop {LoopReport(0, True, 0).text()}\n") + 2 * (digits - 1)
+        self.assertIn(f"PUMDALIN_TEXT_LENGTH = {figures + MOST_RECORDS * loop},", self.text)
 
 
 class Picture(unittest.TestCase):

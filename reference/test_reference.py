@@ -16,17 +16,16 @@ from random import Random
 import consistency
 import stages
 import trips
-from calls import Called, Figures, answer, c_call, program_text, reports
+from calls import Called, TextCalled, answer, c_call, program_text, reports, text_call
 from example_calls import calls_file
 from example_readings import known_file, readings_file, telling_file
 from example_states import states_file
 from generate import SIZES, cases, parameters, valid_records
 from known import MARKED, OTHERS, TRIANGLE, UNIT, ZERO, Known, form, loop, span
 from nest import ceiling_refusal
+from pumdalin.answers import Figures, Refusal
+from pumdalin.records import COST_LIMIT, END, LOOP, WORK, Choice, End, Form, NextArm, encode_all
 from readings import READINGS, TELLING, parse_file
-from records import (
-    COST_LIMIT, END, LOOP, WORK, Choice, End, Form, NextArm, Refusal, encode_all,
-)
 from sheet import BLANK, Part, RawRecord, SheetEnd, Written, raw, read, record_at, write
 
 GIVEN = os.environ.get("READINGS", READINGS)
@@ -152,6 +151,35 @@ class Calls(unittest.TestCase):
         largest = encode_all([loop(Form(), Form(-1))] * 64)
         for sheet in (longest + bytes(2000), largest + b"\x03" * 70):
             self.assertEqual(program_text(header + sheet), program_text((header + sheet)[:1613]))
+
+
+class TextCalls(unittest.TestCase):
+    HEADER = bytes(8) + (100).to_bytes(4, "little")
+    TEXT = b"best 0 worst 0 visits 0\n"
+    LENGTH = b"\x18\0\0\0\0\0\0\0"
+
+    def called(self, data: bytes, buffer_length: int, area_length: int) -> TextCalled:
+        return text_call(data, b"\xbb" * buffer_length, b"\xaa" * area_length)
+
+    def test_stored(self) -> None:
+        self.assertEqual(self.called(self.HEADER, 24, 8), (0, self.TEXT, self.LENGTH))
+        longer = (0, self.TEXT + b"\xbb" * 3, self.LENGTH + b"\xaa" * 2)
+        self.assertEqual(self.called(self.HEADER, 27, 10), longer)
+
+    def test_refused_sheets(self) -> None:
+        """They are text, whatever the sheet or the input is refused for."""
+        texts = {self.HEADER + b"\x09": b"refused 2 at 0\n", bytes(12): b"refused 7 at 0\n",
+                 bytes(11): b"refused 1 at 0\n", b"": b"refused 1 at 0\n"}
+        for data, text in texts.items():
+            expected = (0, text + b"\xbb", b"\x0f" + bytes(7))
+            self.assertEqual(self.called(data, 16, 8), expected)
+
+    def test_refused(self) -> None:
+        for buffer_length, area_length, number in [
+            (24, 7, 9), (24, 0, 9), (23, 7, 9), (0, 0, 9), (23, 8, 12), (0, 8, 12), (23, 11, 12),
+        ]:
+            kept = (number, b"\xbb" * buffer_length, b"\xaa" * area_length)
+            self.assertEqual(self.called(self.HEADER, buffer_length, area_length), kept)
 
 
 class Examples(unittest.TestCase):

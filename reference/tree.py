@@ -3,7 +3,7 @@
 from dataclasses import dataclass
 from typing import Union
 
-from records import Choice, End, Loop, NextArm, Record, Work
+from pumdalin.records import Choice, End, Loop, NextArm, Record, Work
 
 
 @dataclass(frozen=True)

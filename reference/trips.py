@@ -2,8 +2,9 @@
 
 from typing import NamedTuple
 
-from nest import LoopFacts, Parameters, facts, subtract, trips_for, value
-from records import Loop, Record, Work
+from nest import LoopFacts, facts, subtract, trips_for, value
+from pumdalin.inputs import Parameters
+from pumdalin.records import Loop, Record, Work
 from tree import Body, ChoiceNode, LoopNode, tree
 
 

@@ -3,7 +3,7 @@
 from typing import NamedTuple
 
 from known import form, loop, span
-from records import Choice, End, Form, NextArm, Work
+from pumdalin.records import Choice, End, Form, NextArm, Work
 from sheet import RawRecord, raw
 
 WORK_ENTRY = raw(Work(1, 2))

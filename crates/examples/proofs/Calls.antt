@@ -1,4 +1,4 @@
--- The writer, the C call, the record reader and the program's text, by cases.
+-- The writer, the C calls, the record reader and the program's text, by cases.
 -- Last three numbers that only theorems name.
 use mathlib.Core.Path.{_≡_, refl}
 use mathlib.Core.List.{[], _∷_}
@@ -10,7 +10,8 @@ use Rattle.meaning.specs.Writer.{RawRecord, write}
 use Rattle.meaning.specs.CCall.{cCall}
 use Rattle.meaning.specs.Text.{text}
 use Rattle.meaning.specs.Program.{programText}
-use Rattle.meaning.proofs.Vocabulary.{hex, zeroParameters, form, raw, written, notWritten, called, found, sheetEnd}
+use Rattle.meaning.specs.TextCall.{textCall}
+use Rattle.meaning.proofs.Vocabulary.{hex, zeroParameters, form, raw, written, notWritten, called, textCalled, found, sheetEnd}
 use Rattle.meaning.proofs.Computes.{computes}
 
 abbrev noForm : Form
@@ -369,6 +370,48 @@ pub program-text-1 :
     × (programText (hex "0000000000000000640000000101002c0102ff0fff0f0100000000000000000000ff0700000000000000010000ff0f03") ≡ (text "best 8390656 worst 16777515 visits 1\nloop 5 closed ceiling 2048\n"))
 unfolding computes
 program-text-1 = (refl, refl, refl, refl, refl, refl, refl, refl, refl, refl, refl, refl, refl, refl)
+
+pub text-call-1 :
+    -- buffer as long as the text
+    (textCall (hex "0000000000000000640000000200000000010000000000000000000009000000000000000002000000000100000000000000000000ffff0100000000000001010001000303") (hex "bbbbbbbbbbbbbbbbbbbbbbbbbbbbbbbbbbbbbbbbbbbbbbbbbbbbbbbbbbbbbbbbbbbbbbbbbbbbbbbbbbbbbbbbbbbbbbbbbbbbbbbbbbbbbbbbbbbbbbbbbbbbbbbbbbbbbbbbbbbbbbbbbbbbbbbb") (hex "65666768696a6b6c") ≡ textCalled 0 (hex "6265737420343520776f7273742034352076697369747320330a6c6f6f70203020636c6f736564206365696c696e672031300a6c6f6f7020323520636c6f736564206365696c696e6720390a") (hex "4c00000000000000"))
+    -- buffer one byte short
+    × (textCall (hex "0000000000000000640000000200000000010000000000000000000009000000000000000002000000000100000000000000000000ffff0100000000000001010001000303") (hex "bbbbbbbbbbbbbbbbbbbbbbbbbbbbbbbbbbbbbbbbbbbbbbbbbbbbbbbbbbbbbbbbbbbbbbbbbbbbbbbbbbbbbbbbbbbbbbbbbbbbbbbbbbbbbbbbbbbbbbbbbbbbbbbbbbbbbbbbbbbbbbbbbbbbbb") (hex "65666768696a6b6c") ≡ textCalled 12 (hex "bbbbbbbbbbbbbbbbbbbbbbbbbbbbbbbbbbbbbbbbbbbbbbbbbbbbbbbbbbbbbbbbbbbbbbbbbbbbbbbbbbbbbbbbbbbbbbbbbbbbbbbbbbbbbbbbbbbbbbbbbbbbbbbbbbbbbbbbbbbbbbbbbbbbbb") (hex "65666768696a6b6c"))
+    -- no buffer
+    × (textCall (hex "0000000000000000640000000200000000010000000000000000000009000000000000000002000000000100000000000000000000ffff0100000000000001010001000303") [] (hex "65666768696a6b6c") ≡ textCalled 12 [] (hex "65666768696a6b6c"))
+    -- buffer five bytes longer: they stay
+    × (textCall (hex "0000000000000000640000000200000000010000000000000000000009000000000000000002000000000100000000000000000000ffff0100000000000001010001000303") (hex "bbbbbbbbbbbbbbbbbbbbbbbbbbbbbbbbbbbbbbbbbbbbbbbbbbbbbbbbbbbbbbbbbbbbbbbbbbbbbbbbbbbbbbbbbbbbbbbbbbbbbbbbbbbbbbbbbbbbbbbbbbbbbbbbbbbbbbbbbbbbbbbbbbbbbbbbbbbbbbbbbb") (hex "65666768696a6b6c") ≡ textCalled 0 (hex "6265737420343520776f7273742034352076697369747320330a6c6f6f70203020636c6f736564206365696c696e672031300a6c6f6f7020323520636c6f736564206365696c696e6720390abbbbbbbbbb") (hex "4c00000000000000"))
+    -- area of 11 bytes: the last three stay
+    × (textCall (hex "0000000000000000640000000200000000010000000000000000000009000000000000000002000000000100000000000000000000ffff0100000000000001010001000303") (hex "bbbbbbbbbbbbbbbbbbbbbbbbbbbbbbbbbbbbbbbbbbbbbbbbbbbbbbbbbbbbbbbbbbbbbbbbbbbbbbbbbbbbbbbbbbbbbbbbbbbbbbbbbbbbbbbbbbbbbbbbbbbbbbbbbbbbbbbbbbbbbbbbbbbbbbbb") (hex "65666768696a6b6c6d6e6f") ≡ textCalled 0 (hex "6265737420343520776f7273742034352076697369747320330a6c6f6f70203020636c6f736564206365696c696e672031300a6c6f6f7020323520636c6f736564206365696c696e6720390a") (hex "4c000000000000006d6e6f"))
+    -- area of 7 bytes
+    × (textCall (hex "0000000000000000640000000200000000010000000000000000000009000000000000000002000000000100000000000000000000ffff0100000000000001010001000303") (hex "bbbbbbbbbbbbbbbbbbbbbbbbbbbbbbbbbbbbbbbbbbbbbbbbbbbbbbbbbbbbbbbbbbbbbbbbbbbbbbbbbbbbbbbbbbbbbbbbbbbbbbbbbbbbbbbbbbbbbbbbbbbbbbbbbbbbbbbbbbbbbbbbbbbbbbbb") (hex "65666768696a6b") ≡ textCalled 9 (hex "bbbbbbbbbbbbbbbbbbbbbbbbbbbbbbbbbbbbbbbbbbbbbbbbbbbbbbbbbbbbbbbbbbbbbbbbbbbbbbbbbbbbbbbbbbbbbbbbbbbbbbbbbbbbbbbbbbbbbbbbbbbbbbbbbbbbbbbbbbbbbbbbbbbbbbbb") (hex "65666768696a6b"))
+    -- no area
+    × (textCall (hex "0000000000000000640000000200000000010000000000000000000009000000000000000002000000000100000000000000000000ffff0100000000000001010001000303") (hex "bbbbbbbbbbbbbbbbbbbbbbbbbbbbbbbbbbbbbbbbbbbbbbbbbbbbbbbbbbbbbbbbbbbbbbbbbbbbbbbbbbbbbbbbbbbbbbbbbbbbbbbbbbbbbbbbbbbbbbbbbbbbbbbbbbbbbbbbbbbbbbbbbbbbbbbb") [] ≡ textCalled 9 (hex "bbbbbbbbbbbbbbbbbbbbbbbbbbbbbbbbbbbbbbbbbbbbbbbbbbbbbbbbbbbbbbbbbbbbbbbbbbbbbbbbbbbbbbbbbbbbbbbbbbbbbbbbbbbbbbbbbbbbbbbbbbbbbbbbbbbbbbbbbbbbbbbbbbbbbbbb") [])
+    -- 9 before 12
+    × (textCall (hex "0000000000000000640000000200000000010000000000000000000009000000000000000002000000000100000000000000000000ffff0100000000000001010001000303") (hex "bbbbbbbbbbbbbbbbbbbbbbbbbbbbbbbbbbbbbbbbbbbbbbbbbbbbbbbbbbbbbbbbbbbbbbbbbbbbbbbbbbbbbbbbbbbbbbbbbbbbbbbbbbbbbbbbbbbbbbbbbbbbbbbbbbbbbbbbbbbbbbbbbbbbbb") (hex "65666768696a6b") ≡ textCalled 9 (hex "bbbbbbbbbbbbbbbbbbbbbbbbbbbbbbbbbbbbbbbbbbbbbbbbbbbbbbbbbbbbbbbbbbbbbbbbbbbbbbbbbbbbbbbbbbbbbbbbbbbbbbbbbbbbbbbbbbbbbbbbbbbbbbbbbbbbbbbbbbbbbbbbbbbbbb") (hex "65666768696a6b"))
+    -- neither buffer nor area: 9
+    × (textCall (hex "0000000000000000640000000200000000010000000000000000000009000000000000000002000000000100000000000000000000ffff0100000000000001010001000303") [] [] ≡ textCalled 9 [] [])
+    -- 12 with an area of 11 bytes: all stay
+    × (textCall (hex "0000000000000000640000000200000000010000000000000000000009000000000000000002000000000100000000000000000000ffff0100000000000001010001000303") [] (hex "65666768696a6b6c6d6e6f") ≡ textCalled 12 [] (hex "65666768696a6b6c6d6e6f"))
+    -- a refusal is text
+    × (textCall (hex "000000000000000064000000010300050006") (hex "bbbbbbbbbbbbbbbbbbbbbbbbbbbbbbbbbb") (hex "65666768696a6b6c") ≡ textCalled 0 (hex "72656675736564203220617420350abbbb") (hex "0f00000000000000"))
+    -- a refusal is text, buffer one byte short
+    × (textCall (hex "000000000000000064000000010300050006") (hex "bbbbbbbbbbbbbbbbbbbbbbbbbbbb") (hex "65666768696a6b6c") ≡ textCalled 12 (hex "bbbbbbbbbbbbbbbbbbbbbbbbbbbb") (hex "65666768696a6b6c"))
+    -- budget 0 is text
+    × (textCall (hex "0000000000000000000000000200000000010000000000000000000009000000000000000002000000000100000000000000000000ffff0100000000000001010001000303") (hex "bbbbbbbbbbbbbbbbbbbbbbbbbbbbbb") (hex "65666768696a6b6c") ≡ textCalled 0 (hex "72656675736564203720617420300a") (hex "0f00000000000000"))
+    -- empty sheet
+    × (textCall (hex "000000000000000064000000") (hex "bbbbbbbbbbbbbbbbbbbbbbbbbbbbbbbbbbbbbbbbbbbbbbbb") (hex "65666768696a6b6c") ≡ textCalled 0 (hex "62657374203020776f72737420302076697369747320300a") (hex "1800000000000000"))
+    -- 11 bytes of input
+    × (textCall (hex "0000000000000000640000") (hex "bbbbbbbbbbbbbbbbbbbbbbbbbbbbbb") (hex "65666768696a6b6c") ≡ textCalled 0 (hex "72656675736564203120617420300a") (hex "0f00000000000000"))
+    -- 11 bytes of input, buffer one byte short
+    × (textCall (hex "0000000000000000640000") (hex "bbbbbbbbbbbbbbbbbbbbbbbbbbbb") (hex "65666768696a6b6c") ≡ textCalled 12 (hex "bbbbbbbbbbbbbbbbbbbbbbbbbbbb") (hex "65666768696a6b6c"))
+    -- no input
+    × (textCall [] (hex "bbbbbbbbbbbbbbbbbbbbbbbbbbbbbbbbbbbb") (hex "65666768696a6b6c") ≡ textCalled 0 (hex "72656675736564203120617420300abbbbbb") (hex "0f00000000000000"))
+    -- no input and no buffer: 12
+    × (textCall [] [] (hex "65666768696a6b6c") ≡ textCalled 12 [] (hex "65666768696a6b6c"))
+    -- nothing at all: 9
+    × (textCall [] [] [] ≡ textCalled 9 [] [])
+unfolding computes
+text-call-1 = (refl, refl, refl, refl, refl, refl, refl, refl, refl, refl, refl, refl, refl, refl, refl, refl, refl, refl, refl)
 
 pub numbers-1 :
     -- every figure is below 2^62

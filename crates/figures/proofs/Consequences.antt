@@ -1,25 +1,21 @@
--- What the promises of the two calls come to; drawn from these promises alone, so that a weaker part of them breaks a theorem.
+-- What the promises of the library call come to; drawn from these promises alone, so that a weaker part of them breaks a theorem.
 use mathlib.Core.List.{List, [], _∷_}
-use mathlib.Core.Path.{ap, refl, subst, sym, _∙_, _≡_}
-use Prim.Native.Nat.{ℕ, _≤_}
+use mathlib.Core.Path.{ap, subst, sym, _∙_, _≡_}
+use Prim.Native.Nat.{ℕ}
 use lib.ListN.{length}
-use lib.IntN.{ℤ, pos}
+use lib.IntN.{ℤ}
 use Rattle.meaning.specs.Demand.{Demand3}
-use Rattle.meaning.specs.Answer.{Figures, answer, figures, figuresOf}
+use Rattle.meaning.specs.Answer.{Figures, figuresOf}
 use Rattle.meaning.specs.Record.{Record}
 use Rattle.meaning.specs.Run.{Run}
-use Rattle.meaning.specs.CCall.{figuresIn}
 use Rattle.meaning.specs.Reader.{ok, read}
 use Rattle.meaning.specs.Tree.{tree}
 use Rattle.meaning.proofs.Consequences.{Largest, Smallest, figures-decided, figures-defined, least-smallest, most-largest}
-use Rattle.meaning.proofs.Answers.{answer-ok}
-use Rattle.meaning.proofs.Known.{known-sheets}
 use Rattle.meaning.proofs.Logic.{ok-injective}
-use Rattle.meaning.proofs.Vocabulary.{hex, zeroParameters}
 use Rattle.state.specs.States.{StateParts, blankState}
 use Rattle.state.specs.Sums.{visitsOf}
 use Rattle.stages.specs.Next.{statesAfter, visitsBegunBy}
-use Rattle.figures.specs.Demand.{Answered, Stored, stagesOf}
+use Rattle.figures.specs.Demand.{Answered, stagesOf}
 
 module _ (sheet : List ℕ) (ps : List ℤ) where
   module _ (rs : List Record) (readAs : read sheet ≡ ok rs) (f : Figures) (answered : Answered sheet ps (ok f)) where
@@ -54,36 +50,3 @@ module _ (sheet : List ℕ) (ps : List ℤ) where
   pub one-answer : {f g : Figures} → Answered sheet ps (ok f) → Answered sheet ps (ok g) → f ≡ g
   unfolding Answered
   one-answer a b = figures-decided (a .2) (demand-of (a .0) (a .1) _ b)
-
--- ---- a sheet with known figures
-
--- What is known of a call of the C function that returned 0 and left `area`.
-pub record KnownFigures (ps : List ℤ) (rs : List Record) (least most visits : ℕ) (area : List ℕ) : Type 0 where
-  pub held : figuresIn area ≡ figures least most visits
-  pub fastest : Run ps (tree rs) [] least
-  pub slowest : Run ps (tree rs) [] most
-  pub neverBelow : (cycles : ℕ) → Run ps (tree rs) [] cycles → least ≤ cycles
-  pub neverAbove : (cycles : ℕ) → Run ps (tree rs) [] cycles → cycles ≤ most
-
-abbrev pub KnownCall : List ℕ → List ℤ → ℕ → ℕ → ℕ → Type 0
-KnownCall sheet ps least most visits =
-    (area : List ℕ) → Stored sheet ps 0 area → (rs : List Record) × (read sheet ≡ ok rs) × KnownFigures ps rs least most visits area
-
--- from the promise alone, and from what the definitions answer
-pub known-call : (sheet : List ℕ) (ps : List ℤ) (budget least most visits : ℕ) →
-    answer sheet ps budget ≡ ok (figures least most visits) → KnownCall sheet ps least most visits
-unfolding Stored
-known-call sheet ps budget least most visits known area stored =
-    let a = answer-ok sheet ps budget (figures least most visits) .0 known in
-    let same = answered-figures sheet ps (a .rs) (a .readAs) (figuresIn area) (stored refl) ∙ sym (a .figuresAre) in
-    let small = subst (λ (f : Figures). Smallest (Run ps (tree (a .rs)) []) (f .least)) same (answered-least sheet ps (a .rs) (a .readAs) (figuresIn area) (stored refl)) in
-    let large = subst (λ (f : Figures). Largest (Run ps (tree (a .rs)) []) (f .most)) same (answered-most sheet ps (a .rs) (a .readAs) (figuresIn area) (stored refl)) in
-    (a .rs, a .readAs, record { held = same; fastest = small .holds; slowest = large .holds; neverBelow = small .below; neverAbove = large .above })
-
--- two of the known sheets: i 1 to N over j i to N with N 100; i 0 to 9 over a choice of (j 0 to i - 1) and work 4 to 4
-pub known-calls :
-    KnownCall (hex "020000000001000100000000000000000000000000010000000200000000010000000100000000000000000000000100000001010001000303")
-    (pos 100 ∷ pos 0 ∷ pos 0 ∷ pos 0 ∷ []) 5050 5050 4
-    × KnownCall (hex "020000000001000000000000000000000900000000000000000402000000000100000000000000000000ffff010000000000000101000100030501040004000303")
-    zeroParameters 30 55 19
-known-calls = (known-call _ _ _ _ _ _ (known-sheets .14), known-call _ _ _ _ _ _ (known-sheets .18))

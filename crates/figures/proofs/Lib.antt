@@ -1,7 +1,6 @@
 pub mod Repeats
 pub mod Answering
 pub mod Demands
-pub mod Calls
 pub mod Settled
 pub mod KnownAnswers
 pub mod Consequences

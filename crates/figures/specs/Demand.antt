@@ -8,7 +8,6 @@ use Rattle.meaning.specs.Record.{Record}
 use Rattle.meaning.specs.Reader.{Result, ok, refused, read}
 use Rattle.meaning.specs.Answer.{Figures}
 use Rattle.meaning.specs.Demand.{Staging, Demand3}
-use Rattle.meaning.specs.CCall.{figuresIn}
 use Rattle.state.specs.Sums.{visitsOf}
 use Rattle.state.specs.States.{StateParts, blankState}
 use Rattle.stages.specs.Next.{partsOf, statesAfter, visitsBegunBy}
@@ -29,7 +28,3 @@ module _ (sheet : List ℕ) (parameters : List ℤ) where
   unfoldable pub Answered : Result Figures → Type 0
   Answered (ok f) = (rs : List Record) × (read sheet ≡ ok rs) × Demand3 parameters rs (stagesOf (length rs)) f
   Answered (refused number place) = Unit {0}
-
-  -- the C call's: where it returns 0, of the figures that are read back out of the area
-  unfoldable pub Stored : ℕ → List ℕ → Type 0
-  Stored number area = number ≡ 0 → Answered (ok (figuresIn area))

@@ -20,6 +20,7 @@ use Rattle.meaning.specs.CCall.{areaBytes, storeAnswer, cCall, figuresIn
 use Rattle.meaning.specs.Text.{text, lastDigit, digits, decimal}
 use Rattle.meaning.specs.Program.{figuresLine, className, loopLine, loopLines, refusedLine, answerText}
 use Rattle.meaning.specs.Program.{inputParameters, inputBudget, inputSheet, reportsOf, programText}
+use Rattle.meaning.specs.TextCall.{storeText, fitText, textCall, textIn}
 use Rattle.meaning.proofs.Vocabulary.{hexDigit, hex, sheetReportsOf, stateAfter}
 use Rattle.whole.specs.Integer.{floorDivide}
 use Rattle.whole.specs.Newton.{choose, differences, newtonTerms, newtonSum}
@@ -34,6 +35,6 @@ unfolding unsigned littleEndian decodeSigned encodeSigned hasPattern unsigned16 
     closable closed loopClass countOver visitedOf visitedTrips visits armsVisits orElse firstOverCeiling allClosed loopReports armsReports closedSum
     addAll loopSum addTrip firstState afterEnd addArm stateOf visitBegun andOn indexesOf rangesOf enterLoop endTrip passRecord pass passFrom stage stages
     visitsBegun sheetReports checkCeilings accepted figuresOf checkVisits answer areaBytes storeAnswer cCall figuresIn text lastDigit digits decimal
-    figuresLine className loopLine loopLines refusedLine answerText inputParameters inputBudget inputSheet reportsOf programText hexDigit hex
-    sheetReportsOf stateAfter floorDivide choose differences newtonTerms newtonSum
+    figuresLine className loopLine loopLines refusedLine answerText inputParameters inputBudget inputSheet reportsOf programText storeText fitText
+    textCall textIn hexDigit hex sheetReportsOf stateAfter floorDivide choose differences newtonTerms newtonSum
 computes = tt

@@ -25,6 +25,7 @@ pub mod Reports
 pub mod FewVisits
 pub mod SmallFigures
 pub mod Answers
+pub mod TextCalls
 pub mod Demands
 pub mod Consequences
 pub mod Computes

@@ -17,6 +17,7 @@ use Rattle.meaning.specs.Report.{LoopReport}
 use Rattle.meaning.specs.Stage.{State, firstState, stages}
 use Rattle.meaning.specs.CCall.{Called}
 use Rattle.meaning.specs.Program.{reportsOf}
+use Rattle.meaning.specs.TextCall.{TextCalled}
 
 unfoldable digitValue : Bool → ℕ → ℕ
 digitValue true c = c - 48
@@ -66,6 +67,9 @@ notWritten number place buffer = record { result = refused number place; buffer 
 
 abbrev pub called : ℕ → List ℕ → Called
 called number area = record { number = number; area = area }
+
+abbrev pub textCalled : ℕ → List ℕ → List ℕ → TextCalled
+textCalled number text area = record { number = number; text = text; area = area }
 
 abbrev pub found : ℕ → ℕ → ℕ → Result (Option Head)
 found kindNumber bodyOffset bodyLength = ok (some (record { kindNumber = kindNumber; bodyOffset = bodyOffset; bodyLength = bodyLength }))

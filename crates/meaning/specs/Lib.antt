@@ -17,4 +17,5 @@ pub mod Answer
 pub mod CCall
 pub mod Text
 pub mod Program
+pub mod TextCall
 pub mod Demand

@@ -1,4 +1,4 @@
--- Document 01's numbers, each named once.
+-- The numbers of document 01 and of the calls that store a text, each named once.
 use Prim.Native.Nat.{ℕ, _+_, _*_, _^_}
 
 -- "The sheet": at most 64 records, loops 4 deep, 8 records open together
@@ -53,6 +53,10 @@ budgetLimit = 1000000
 -- refusal 9: the bytes that the C call fills
 abbrev pub areaLength : ℕ
 areaLength = 24
+
+-- refusal 9 of the calls that store a text: the bytes that its length takes in the area
+abbrev pub lengthSize : ℕ
+lengthSize = 8
 
 -- "Time": every figure is below this
 abbrev pub figureLimit : ℕ

@@ -5,10 +5,10 @@ use crate::compare::still_filled;
 use crate::numbers::parameters_in;
 use crate::numbers::unsigned64_at;
 use encoding::number::unsigned32_at;
+use exports::pumdalin_figures;
 use figures::Answer;
 use figures::Figures;
 use figures::cycles;
-use figures::pumdalin_figures;
 
 // Parameters, budget and answer area: how many bytes follow the sheet.
 pub(crate) const CALL: usize = 36;

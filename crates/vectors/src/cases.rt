@@ -23,6 +23,8 @@ pub(crate) const CALLS: u8 = 4;
 
 pub(crate) const STAGES: u8 = 5;
 
+pub(crate) const TEXTS: u8 = 6;
+
 // How many bytes an entry takes that has the fields of a record.
 pub(crate) const ENTRY: usize = 29;
 
@@ -49,9 +51,12 @@ pub(crate) fn case_of(header: &[u8]) -> Case {
     }
 }
 
-// How many bytes follow the sheet: records, parameters and the lines of loops, a call, or parameters and states.
+// How many bytes follow the sheet: a text, records, parameters and the lines of loops, a call, or parameters and states.
 pub(crate) fn entries_length(case: Case) -> usize {
     let entries = case.entries;
+    if case.which == TEXTS {
+        return entries;
+    }
     if MOST_STAGES < entries {
         return 0;
     }

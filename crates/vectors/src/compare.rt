@@ -6,11 +6,13 @@ use crate::cases::ENTRY;
 use crate::cases::PLAN;
 use crate::cases::READER;
 use crate::cases::STAGES;
+use crate::cases::TEXTS;
 use crate::cases::WRITER;
 use crate::cases::entries_length;
 use crate::cases::record_in;
 use crate::plans::plan_agrees;
 use crate::states::stages_agree;
+use crate::texts::text_agrees;
 use form::packed::PackedForm;
 use records::MAX_RECORDS;
 use records::Record;
@@ -173,6 +175,7 @@ pub(crate) fn agrees(case: Case, sheets: &[u8], entries: &[u8]) -> bool {
         PLAN => plan_agrees(case, sheet, own),
         CALLS => calls_agree(case, sheet, own),
         STAGES => stages_agree(case, sheet, own),
+        TEXTS => text_agrees(case, sheet, own),
         _ => false,
     }
 }

@@ -1,14 +1,17 @@
-// Runs the stored cases of the reader, the writer, the plan, the calls and the stage, and says how many there are and how many differ.
+// Runs the stored cases of the reader, the writer, the plan, the calls, the stage and the texts, and says how many there are and
+// how many differ.
 mod calls;
 mod cases;
 mod compare;
 mod numbers;
 mod plans;
 mod states;
+mod texts;
 
 use crate::cases::PLAN;
 use crate::cases::READER;
 use crate::cases::STAGES;
+use crate::cases::TEXTS;
 use crate::cases::WRITER;
 use crate::cases::case_of;
 use crate::cases::entries_length;
@@ -22,6 +25,7 @@ struct Tally {
     plans: u64,
     calls: u64,
     stagings: u64,
+    texts: u64,
     differing: u64,
     more: bool,
 }
@@ -41,6 +45,9 @@ fn counted(tally: Tally, which: u8, agrees: bool) -> Tally {
         }
         STAGES => {
             next.stagings = std::num::wrapping_add_u64(next.stagings, 1);
+        }
+        TEXTS => {
+            next.texts = std::num::wrapping_add_u64(next.texts, 1);
         }
         _ => {
             next.calls = std::num::wrapping_add_u64(next.calls, 1);
@@ -121,17 +128,20 @@ fn main() {
         plans: 0,
         calls: 0,
         stagings: 0,
+        texts: 0,
         differing: 0,
         more: true,
     };
     let sheets = run_file(b"sheets", none);
     let loops = run_file(b"loops", sheets);
     let figures = run_file(b"figures", loops);
-    let tally = run_file(b"stages", figures);
+    let stages = run_file(b"stages", figures);
+    let tally = run_file(b"texts", stages);
     print_line(b"sheets read: ", tally.readings);
     print_line(b"sheets written: ", tally.writings);
     print_line(b"plans made: ", tally.plans);
     print_line(b"figures answered: ", tally.calls);
     print_line(b"sheets gone through stage by stage: ", tally.stagings);
+    print_line(b"texts stored: ", tally.texts);
     print_line(b"otherwise than reckoned: ", tally.differing);
 }

@@ -1,0 +1,146 @@
+"""`pumdalin LISTING`: the figures of a sheet, what is said of its loops, and whether its expectations hold."""
+
+import argparse
+import json
+from typing import NamedTuple
+
+from pumdalin import VERSION
+from pumdalin.answers import Answer, Figures, LoopReport, Refusal
+from pumdalin.arguments import add_budget, add_file, add_parameters, parser_for
+from pumdalin.errors import ANSWERED, REFUSED, CommandError
+from pumdalin.files import tell, write_text
+from pumdalin.inputs import Parameters, filled
+from pumdalin.library import Library
+from pumdalin.listing_reader import Expectation
+from pumdalin.listing_text import PARAMETER_NAMES
+from pumdalin.refusals import words_for
+from pumdalin.subjects import Subject, ask, read_subject, refusal_lines
+
+DESCRIPTION = """\
+Least and most cycles that the code of a sheet can take, the visits that the answer
+took, and what is said of each loop, all from the proved calls. Every `expect` of the
+listing is checked."""
+
+# Readers of JSON that keep numbers as doubles round those above.
+LARGEST_EXACT_DOUBLE = 2 ** 53 - 1
+
+
+class Check(NamedTuple):
+    """What a listing expects, and what is answered."""
+
+    expected: Expectation
+    answered: Answer
+
+    def holds(self) -> bool:
+        return self.expected.answer == self.answered
+
+    def asked(self) -> str:
+        return asked_text(self.expected.parameters, self.expected.budget)
+
+
+class Outcome(NamedTuple):
+    subject: Subject
+    parameters: Parameters
+    budget: int
+    answer: Answer
+    loops: list[LoopReport]
+    checks: list[Check]
+
+    def status(self) -> int:
+        answered = isinstance(self.answer, Figures) and all(check.holds() for check in self.checks)
+        return ANSWERED if answered else REFUSED
+
+
+def add_arguments(parser: argparse.ArgumentParser) -> None:
+    add_file(parser, "LISTING", "the listing of a sheet")
+    add_parameters(parser)
+    add_budget(parser)
+    parser.add_argument("--bytes", action="store_true", help="the file holds a sheet's bytes and not a listing")
+    parser.add_argument("--json", action="store_true", help="the answer as JSON, for builds")
+    parser.add_argument("--version", action="version", version=f"pumdalin {VERSION}")
+
+
+def run(words: list[str], library: Library, further: str = "") -> int:
+    parser = parser_for("pumdalin", DESCRIPTION, further)
+    add_arguments(parser)
+    given = parser.parse_args(words)
+    subject = read_subject(given.file, given.bytes)
+    if not subject.sheet and not subject.expectations():
+        raise CommandError("there is no record; an empty sheet takes no cycles, and is answered where the listing "
+                           "expects that: expect 0 0 visits 0", subject.name)
+    outcome = outcome_of(given, subject, library)
+    tell_unused(given.parameters or (), outcome)
+    if given.json:
+        write_json(outcome)
+    else:
+        write_words(outcome)
+    return outcome.status()
+
+
+def outcome_of(given: argparse.Namespace, subject: Subject, library: Library) -> Outcome:
+    values, budget = subject.given()
+    values = values if given.parameters is None else given.parameters
+    budget = budget if given.budget is None else given.budget
+    report = ask(library, subject, values, budget)
+    checks = [Check(said, library.report(subject.sheet, said.parameters, said.budget).answer)
+              for said in subject.expectations()]
+    return Outcome(subject, filled(values), budget, report.answer, report.loops, checks)
+
+
+def asked_text(parameters: Parameters, budget: int) -> str:
+    return f"parameters {' '.join(str(value) for value in parameters)} budget {budget}"
+
+
+def tell_unused(values: tuple[int, ...], outcome: Outcome) -> None:
+    """A value that changes nothing is told: a mistake in the values often shows there."""
+    if isinstance(outcome.answer, Figures):
+        for parameter in set(range(len(values))).difference(outcome.subject.used()):
+            tell(f"{outcome.subject.name}: note: {PARAMETER_NAMES[parameter]} has a value, and no bound uses it")
+
+
+def write_words(outcome: Outcome) -> None:
+    """Answers on the standard output; what makes the status 1 on the standard error."""
+    lines: list[str] = []
+    if isinstance(outcome.answer, Figures):
+        lines += [outcome.answer.text(), asked_text(outcome.parameters, outcome.budget)]
+        lines += [outcome.subject.loop_line(loop) for loop in outcome.loops]
+    lines += [f"line {check.expected.line}: as expected at {check.asked()}: {check.answered.text()}"
+              for check in outcome.checks if check.holds()]
+    write_text(lines)
+    if isinstance(outcome.answer, Refusal):
+        for line in refusal_lines(outcome.subject, outcome.answer):
+            tell(line)
+    for check in outcome.checks:
+        if not check.holds():
+            tell(f"{outcome.subject.name}:{check.expected.line}: at {check.asked()} expected "
+                 f"{check.expected.answer.text()}, answered {check.answered.text()}")
+
+
+def write_json(outcome: Outcome) -> None:
+    answer = outcome.answer
+    write_text([json.dumps({
+        "file": outcome.subject.name,
+        "parameters": outcome.parameters,
+        "budget": outcome.budget,
+        "answer": answer._asdict() if isinstance(answer, Figures) else None,
+        "refusal": refusal_object(outcome.subject, answer) if isinstance(answer, Refusal) else None,
+        "loops": [loop_object(outcome.subject, loop) for loop in outcome.loops],
+        "expectations": [check_object(check) for check in outcome.checks],
+    }, indent=2)])
+    if isinstance(answer, Figures) and answer.most > LARGEST_EXACT_DOUBLE:
+        tell(f"{outcome.subject.name}: note: a figure is above {LARGEST_EXACT_DOUBLE}; a reader of JSON that keeps "
+             "numbers as doubles rounds it")
+
+
+def refusal_object(subject: Subject, refusal: Refusal) -> dict[str, object]:
+    return {**refusal._asdict(), "line": subject.refusal_line(refusal),
+            **words_for(refusal, subject.sheet)._asdict(), "hint": subject.hint(refusal)}
+
+
+def loop_object(subject: Subject, loop: LoopReport) -> dict[str, object]:
+    return {**subject.loop_at(loop.offset), **loop._asdict()}
+
+
+def check_object(check: Check) -> dict[str, object]:
+    return {"line": check.expected.line, "parameters": check.expected.parameters, "budget": check.expected.budget,
+            "expected": check.expected.answer._asdict(), "answered": check.answered._asdict(), "holds": check.holds()}

@@ -1,0 +1,222 @@
+"""Reads listings: the records of a sheet with their lines, and the answers that it is expected to get.
+
+docs/LISTINGS.md describes the format. A mistake in the text is reported with its line and
+column and with what to write instead. Whether the records make a sheet that is well-formed
+is not asked here: that is for the proved reader of sheets to say.
+"""
+
+from dataclasses import dataclass, field
+from typing import Callable, NamedTuple, Optional
+
+from pumdalin.answers import Answer, Figures, Refusal
+from pumdalin.errors import ListingError
+from pumdalin.inputs import (
+    BUDGET_RANGE, LARGEST_BUDGET, PARAMETER_RANGE, STORED_BUDGET_RANGE, Parameters, filled,
+)
+from pumdalin.listing_bound import read_form
+from pumdalin.listing_line import Line
+from pumdalin.listing_text import KIND_WORDS, PARAMETER_NAMES, index_name
+from pumdalin.ranges import UNSIGNED_16, UNSIGNED_32, UNSIGNED_64
+from pumdalin.records import (
+    COST_LIMIT, END, LOOP, OPENS, PLAIN, STRIDE_LEAST, STRIDE_MOST, WORK,
+    Loop, Record, Work, encode_all, offsets, used_parameters,
+)
+
+COST = (0, COST_LIMIT)
+STRIDE = (STRIDE_LEAST, STRIDE_MOST)
+REFUSAL_NUMBERS = (1, 8)
+
+KINDS = {word: kind for kind, word in KIND_WORDS.items()}
+
+
+class Expectation(NamedTuple):
+    """The answer that a sheet is expected to get, and the line that says so."""
+
+    line: int
+    values: tuple[int, ...]
+    budget: int
+    answer: Answer
+
+    @property
+    def parameters(self) -> Parameters:
+        return filled(self.values)
+
+
+class Entry(NamedTuple):
+    """A record, its line, the columns of its numbers by their names, and how many loops are around it."""
+
+    record: Record
+    line: int
+    columns: dict[str, int]
+    loops_around: int
+
+
+@dataclass
+class Listing:
+    """A listing as far as it is read.
+
+    `values` of the parameters and `budget` are those in force: a line that gives them
+    holds for the lines after it. `last_line` is the number of its last line.
+    What is open is kept as it changes: a listing may be long.
+    """
+
+    entries: list[Entry] = field(default_factory=list)
+    values: tuple[int, ...] = ()
+    budget: int = LARGEST_BUDGET
+    expectations: list[Expectation] = field(default_factory=list)
+    open_kinds: list[int] = field(default_factory=list)
+    loops_open: int = 0
+    last_line: int = 0
+
+    @property
+    def records(self) -> list[Record]:
+        return [entry.record for entry in self.entries]
+
+    def sheet(self) -> bytes:
+        return encode_all(self.records)
+
+    def given(self) -> tuple[tuple[int, ...], int]:
+        """Parameters and budget of the first expectation, or else those given last."""
+        if self.expectations:
+            return self.expectations[0].values, self.expectations[0].budget
+        return self.values, self.budget
+
+    def entry_at(self, offset: int) -> Optional[Entry]:
+        """The entry of the record at an offset of the sheet."""
+        return dict(zip(offsets(self.records), self.entries)).get(offset)
+
+    def first_use(self, parameter: int) -> Optional[int]:
+        """The first line that uses a parameter, numbered from 0."""
+        return next((entry.line for entry in self.entries if parameter in used_parameters([entry.record])), None)
+
+    def add(self, kind: int, entry: Entry) -> None:
+        self.entries.append(entry)
+        if kind in OPENS:
+            self.open_kinds.append(kind)
+            self.loops_open += kind == LOOP
+        elif kind == END and self.open_kinds:
+            self.loops_open -= self.open_kinds.pop() == LOOP
+
+
+def read_listing(text: str) -> Listing:
+    """The listing in a text; ListingError where it has a mistake."""
+    listing = Listing()
+    for number, line_text in enumerate(text.removesuffix("\n").split("\n"), start=1):
+        read_line(Line(number, line_text), listing)
+        listing.last_line = number
+    for expectation in listing.expectations:
+        check_values(listing, expectation)
+    return listing
+
+
+def check_values(listing: Listing, expectation: Expectation) -> None:
+    """Whether an expectation has a value for each parameter that the sheet uses."""
+    for parameter in used_parameters(listing.records):
+        if parameter >= len(expectation.values):
+            name = PARAMETER_NAMES[parameter]
+            raise ListingError(expectation.line, 1, f"{name}, which line {listing.first_use(parameter)} uses, "
+                               f"has no value here; write it in a line 'parameters' above")
+
+
+def read_line(line: Line, listing: Listing) -> None:
+    """A line, by its first word."""
+    if line.at_end():
+        return
+    first = line.next().text
+    if first in KINDS:
+        line.take()
+        record, columns = read_record(line, KINDS[first], listing.loops_open)
+        listing.add(KINDS[first], Entry(record, line.number, columns, listing.loops_open))
+    elif first in OTHER_LINES:
+        line.take()
+        OTHER_LINES[first](line, listing)
+    elif first == "refused":
+        line.fail("this is the listing of a refused sheet; write here what the sheet lacks")
+    else:
+        line.fail_expecting("one of the words " + ", ".join([*KINDS, *OTHER_LINES]))
+    if not line.at_end():
+        line.fail_expecting("nothing more, or # and a comment,")
+
+
+Read = tuple[Record, dict[str, int]]
+
+
+def read_record(line: Line, kind: int, around: int) -> Read:
+    """The record of a line inside so many loops, after the line's first word."""
+    if kind == WORK:
+        return read_work(line)
+    if kind == LOOP:
+        return read_loop(line, around)
+    return PLAIN[kind], {}
+
+
+def read_work(line: Line) -> Read:
+    columns = {"least": line.next().column, "most": line.next().column}
+    least = line.take_number("the work", COST, UNSIGNED_16)
+    if not line.take_if(".."):
+        return Work(least, least), columns
+    columns["most"] = line.next().column
+    return Work(least, line.take_number("the most of the work", COST, UNSIGNED_16)), columns
+
+
+def read_loop(line: Line, around: int) -> Read:
+    name = index_name(around)
+    line.take_required(name, f"{name}, the index of a loop at depth {around + 1},")
+    lower = read_form(line, around)
+    line.take_required("..", "'..' and the upper bound")
+    upper = read_form(line, around)
+    numbers, columns = read_loop_numbers(line)
+    return Loop(numbers["start"], numbers["step"], numbers["stride"], lower, upper), columns
+
+
+def read_loop_numbers(line: Line) -> tuple[dict[str, int], dict[str, int]]:
+    """Stride, start and step of a loop, in any order, each with its default; and their columns."""
+    unsaid = {"by": ("stride", STRIDE), "start": ("start", COST), "step": ("step", COST)}
+    numbers = {"stride": 1, "start": 0, "step": 0}
+    columns: dict[str, int] = {}
+    while not line.at_end():
+        word = line.take_if(*unsaid)
+        if word is None:
+            line.fail_expecting(f"{' or '.join(['+', '-', *unsaid])}, or nothing more,")
+        name, allowed = unsaid.pop(word.text)
+        columns[name] = line.next().column
+        numbers[name] = line.take_number(f"the {name}", allowed, UNSIGNED_16)
+    return numbers, columns
+
+
+def read_parameters(line: Line, listing: Listing) -> None:
+    """One to four values."""
+    values = [line.take_number(PARAMETER_NAMES[0], PARAMETER_RANGE)]
+    for name in PARAMETER_NAMES[1:]:
+        if not line.at_end():
+            line.require_space()
+            values.append(line.take_number(name, PARAMETER_RANGE))
+    listing.values = tuple(values)
+
+
+def read_budget(line: Line, listing: Listing) -> None:
+    listing.budget = line.take_number("the budget", BUDGET_RANGE, STORED_BUDGET_RANGE)
+
+
+def read_expectation(line: Line, listing: Listing) -> None:
+    answer = read_answer(line)
+    listing.expectations.append(Expectation(line.number, listing.values, listing.budget, answer))
+
+
+def read_answer(line: Line) -> Answer:
+    """Least, most and visits, or a refusal and its place."""
+    if line.take_if("refused"):
+        number = line.take_number("the refusal", REFUSAL_NUMBERS)
+        line.take_required("at", "at and the place")
+        return Refusal(number, line.take_number("the place", UNSIGNED_32))
+    least = line.take_number("the least", UNSIGNED_64)
+    most = line.take_number("the most", UNSIGNED_64)
+    line.take_required("visits", "visits and their number")
+    return Figures(least, most, line.take_number("the visits", UNSIGNED_64))
+
+
+OTHER_LINES: dict[str, Callable[[Line, Listing], None]] = {
+    "parameters": read_parameters,
+    "budget": read_budget,
+    "expect": read_expectation,
+}

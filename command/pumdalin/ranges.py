@@ -1,0 +1,12 @@
+"""Ranges of numbers by the bytes that hold them."""
+
+Range = tuple[int, int]
+
+SIGNED_8 = (-2 ** 7, 2 ** 7 - 1)
+SIGNED_16 = (-2 ** 15, 2 ** 15 - 1)
+UNSIGNED_16 = (0, 2 ** 16 - 1)
+UNSIGNED_32 = (0, 2 ** 32 - 1)
+UNSIGNED_64 = (0, 2 ** 64 - 1)
+
+# More digits than any number has that is stored, and few enough to convert at once.
+MOST_DIGITS = 40

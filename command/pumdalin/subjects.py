@@ -1,0 +1,132 @@
+"""What is asked about: a sheet, and where its records were written."""
+
+from typing import Optional, Union
+
+from pumdalin.answers import FIXED_REFUSALS, PLACED_REFUSALS, LoopReport, Refusal, Report
+from pumdalin.characters import decoded
+from pumdalin.errors import CommandError, ListingError
+from pumdalin.files import read_file, shown_name
+from pumdalin.hints import bytes_hint, listing_hint
+from pumdalin.inputs import LARGEST_BUDGET, filled
+from pumdalin.library import Library
+from pumdalin.listing_reader import Expectation, Listing, read_listing
+from pumdalin.listing_text import PARAMETER_NAMES, index_name
+from pumdalin.records import decode_before, used_parameters
+from pumdalin.refusals import explanation, summary
+
+
+class ListingSubject:
+    """A sheet that was written as a listing: its records have lines."""
+
+    def __init__(self, name: str, listing: Listing) -> None:
+        self.name = name
+        self.listing = listing
+        self.sheet = listing.sheet()
+
+    def given(self) -> tuple[tuple[int, ...], int]:
+        return self.listing.given()
+
+    def expectations(self) -> list[Expectation]:
+        return self.listing.expectations
+
+    def used(self) -> list[int]:
+        return used_parameters(self.listing.records)
+
+    def line_at(self, offset: int) -> int:
+        """The line of the record at an offset; the sheet's end is after the last line."""
+        entry = self.listing.entry_at(offset)
+        return entry.line if entry else self.listing.last_line + 1
+
+    def loop_at(self, offset: int) -> dict[str, object]:
+        """The line and the index of the loop at an offset."""
+        entry = self.listing.entry_at(offset)
+        assert entry is not None
+        return {"line": entry.line, "index": index_name(entry.loops_around)}
+
+    def loop_line(self, loop: LoopReport) -> str:
+        return "line {line}: loop {index} ".format(**self.loop_at(loop.offset)) + loop.verdict()
+
+    def refusal_line(self, refusal: Refusal) -> Optional[int]:
+        return self.line_at(refusal.place) if refusal.number in PLACED_REFUSALS else None
+
+    def hint(self, refusal: Refusal) -> Optional[str]:
+        return listing_hint(self.listing, refusal)
+
+    def without_value(self, parameter: int) -> CommandError:
+        return CommandError(f"{PARAMETER_NAMES[parameter]} has no value; give it with --parameters, or in a line "
+                            "'parameters' of the listing", f"{self.name}:{self.listing.first_use(parameter)}")
+
+
+class SheetSubject:
+    """A sheet in bytes: its records have offsets."""
+
+    def __init__(self, name: str, sheet: bytes) -> None:
+        self.name = name
+        self.sheet = sheet
+
+    def given(self) -> tuple[tuple[int, ...], int]:
+        return (), LARGEST_BUDGET
+
+    def expectations(self) -> list[Expectation]:
+        return []
+
+    def used(self) -> list[int]:
+        return used_parameters(decode_before(self.sheet, len(self.sheet)))
+
+    def loop_at(self, offset: int) -> dict[str, object]:
+        return {}
+
+    def loop_line(self, loop: LoopReport) -> str:
+        return f"loop {loop.text()}"
+
+    def refusal_line(self, refusal: Refusal) -> Optional[int]:
+        return None
+
+    def hint(self, refusal: Refusal) -> Optional[str]:
+        return bytes_hint(self.sheet, refusal)
+
+    def without_value(self, parameter: int) -> CommandError:
+        return CommandError(f"the sheet uses {PARAMETER_NAMES[parameter]}, which has no value; give it with "
+                            "--parameters", self.name)
+
+
+Subject = Union[ListingSubject, SheetSubject]
+
+
+def read_listing_file(path: str) -> ListingSubject:
+    """The listing in a file, or a mistake with the file's name before its line."""
+    name = shown_name(path)
+    try:
+        return ListingSubject(name, read_listing(decoded(read_file(path, "a listing"))))
+    except ListingError as error:
+        raise CommandError(error.message, f"{name}:{error.line}:{error.column}") from error
+
+
+def read_subject(path: str, in_bytes: bool) -> Subject:
+    if in_bytes:
+        return SheetSubject(shown_name(path), read_file(path, "a sheet"))
+    return read_listing_file(path)
+
+
+def refusal_lines(subject: Subject, refusal: Refusal) -> list[str]:
+    """A refusal in words, each line after the place where it was found."""
+    line = subject.refusal_line(refusal)
+    place = subject.name if line is None else f"{subject.name}:{line}"
+    hint = subject.hint(refusal)
+    said = [summary(refusal, subject.sheet), *explanation(refusal, subject.sheet), *([f"hint: {hint}"] if hint else [])]
+    return [f"{place}: {words}" for words in said]
+
+
+def ask(library: Library, subject: Subject, values: tuple[int, ...], budget: int) -> Report:
+    """The report of a subject; an error where a parameter that it uses has no value."""
+    report = library.report(subject.sheet, filled(values), budget)
+    if not isinstance(report.answer, Refusal) or report.answer.number not in FIXED_REFUSALS:
+        require_values(subject, values)
+    return report
+
+
+def require_values(subject: Subject, values: tuple[int, ...]) -> None:
+    """An error where a parameter that the sheet uses has no value: it would count as 0."""
+    for parameter in subject.used():
+        if parameter >= len(values):
+            raise subject.without_value(parameter)

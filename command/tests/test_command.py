@@ -1,0 +1,420 @@
+"""Tests of the command as a user runs it: answers, refusals in words, wrong uses, statuses.
+
+The command is that of dist/, or the one that the environment variable PUMDALIN names. The figures expected are those of the
+documents and of the listings, which come from the independent reckoning.
+"""
+
+import json
+import os
+import pty
+import re
+import shlex
+import signal
+import subprocess
+import tempfile
+import time
+import unittest
+from pathlib import Path
+
+ROOT = Path(__file__).resolve().parent.parent.parent
+COMMAND = os.environ.get("PUMDALIN", str(ROOT / "dist" / "bin" / "pumdalin"))
+LISTINGS = ROOT / "examples" / "listings"
+DISPENSE = LISTINGS / "firmware" / "dispense.listing"
+MANUAL = ROOT / "command" / "pumdalin.1"
+
+ANSWER = "best 1054 worst 1977 visits 4\n"
+AS_EXPECTED = "line 25: as expected at parameters 16 0 0 0 budget 100: " + ANSWER
+FULL = Path("/dev/full")
+TRIANGLE_OVER_P1 = "loop i 1..p1\n  loop j i..p1\n    work 1\n  end\nend\n"
+
+Ended = subprocess.CompletedProcess
+
+
+def run(*words: object, given: bytes = b"") -> "Ended[bytes]":
+    return subprocess.run([COMMAND, *map(str, words)], input=given, capture_output=True, timeout=60)
+
+
+def shell(redirection: str, *words: object) -> "Ended[bytes]":
+    """The command with one of its three files closed."""
+    command = shlex.join([COMMAND, *map(str, words)])
+    return subprocess.run(f"{command} {redirection}", shell=True, capture_output=True, timeout=60)
+
+
+class CommandTest(unittest.TestCase):
+    def setUp(self) -> None:
+        self.assertTrue(os.access(COMMAND, os.X_OK), f"{COMMAND} is not there; run make dist first")
+        folder = tempfile.TemporaryDirectory()
+        self.addCleanup(folder.cleanup)
+        self.folder = Path(folder.name)
+
+    def file(self, name: str, data: "str | bytes") -> Path:
+        path = self.folder / name
+        path.write_bytes(data if isinstance(data, bytes) else data.encode())
+        return path
+
+    def sheet(self, listing: str) -> Path:
+        return self.file("made.sheet", run("make", self.file("made.listing", listing)).stdout)
+
+    def check(self, ended: "Ended[bytes]", status: int, output: str = "", *errors: str) -> None:
+        """The status, the whole output, and lines of the standard error, in order."""
+        said = ended.stderr.decode()
+        self.assertEqual((ended.returncode, ended.stdout.decode()), (status, output), said)
+        self.assertNotIn("Traceback", said)
+        at = 0
+        for words in errors:
+            self.assertIn(words, said[at:])
+            at = said.index(words, at) + len(words)
+        self.assertEqual(bool(said), bool(errors), said)
+
+
+class Answers(CommandTest):
+    def test_listing(self) -> None:
+        self.check(run(DISPENSE), 0, ANSWER + "parameters 16 0 0 0 budget 100\nline 14: loop i closed ceiling 16\n"
+                   "line 16: loop j closed ceiling 16\n" + AS_EXPECTED)
+
+    def test_standard_input(self) -> None:
+        data = DISPENSE.read_bytes()
+        for words in ([], ["-"], ["--budget", "100"], ["-", "--parameters", "16"]):
+            self.check(run(*words, given=data), 0, run(DISPENSE).stdout.decode())
+
+    def test_parameters_and_budget(self) -> None:
+        """Those given replace the listing's, which its expectations keep."""
+        listing = self.file("triangle.listing", TRIANGLE_OVER_P1 + "parameters 100\nexpect 5050 5050 visits 4\n")
+        expected = "line 7: as expected at parameters 100 0 0 0 budget 1000000: best 5050 worst 5050 visits 4\n"
+        for words in (["--parameters", "3", listing], [listing, "--parameters=3"], ["--parameters", "+3", "--", listing],
+                      [listing, "--parameters", "3", "--budget", "1000000"]):
+            self.check(run(*words), 0, "best 6 worst 6 visits 4\nparameters 3 0 0 0 budget 1000000\n"
+                       "line 1: loop i closed ceiling 3\nline 2: loop j closed ceiling 3\n" + expected)
+        self.check(run(listing, "--budget", "3"), 1, expected,
+                   "triangle.listing: refused 8 at 0: the sheet takes more visits than the budget",
+                   "whoever placed the call has to give a larger budget", "limit: a budget is 1 to 1,000,000 visits")
+
+    def test_bytes(self) -> None:
+        sheet = self.sheet(TRIANGLE_OVER_P1)
+        said = "best 5050 worst 5050 visits 4\nparameters 100 0 0 0 budget 1000000\nloop 0 closed ceiling 100\n" \
+               "loop 25 closed ceiling 100\n"
+        self.check(run("--bytes", sheet, "--parameters", "100"), 0, said)
+        self.check(run("--bytes", "--parameters", "100", given=sheet.read_bytes()), 0, said)
+
+    def test_every_listing(self) -> None:
+        """Every expectation of every listing of the repository holds."""
+        listings = sorted(LISTINGS.rglob("*.listing"))
+        self.assertGreater(len(listings), 20)
+        for path in listings:
+            with self.subTest(path.name):
+                said = json.loads(run(path, "--json").stdout)
+                self.assertGreater(len(said["expectations"]), 0)
+                self.assertTrue(all(check["holds"] for check in said["expectations"]))
+
+    def test_expectation_that_does_not_hold(self) -> None:
+        text = DISPENSE.read_text().replace("expect 1054 1977", "expect 1054 1976")
+        listing = self.file("wrong.listing", text + "expect 1054 1977 visits 4\nexpect refused 6 at 5\n")
+        ended = run(listing)
+        self.assertEqual((ended.returncode, ended.stdout.splitlines()[0].decode() + "\n"), (1, ANSWER))
+        self.assertIn(b"line 26: as expected", ended.stdout)
+        asked = "at parameters 16 0 0 0 budget 100 expected"
+        self.assertEqual(ended.stderr.decode().splitlines(), [
+            f"{listing}:25: {asked} best 1054 worst 1976 visits 4, answered best 1054 worst 1977 visits 4",
+            f"{listing}:27: {asked} refused 6 at 5, answered best 1054 worst 1977 visits 4"])
+
+    def test_empty_sheet(self) -> None:
+        """It takes no cycles, where that is expected; mostly it is what a program left that failed."""
+        asked = "parameters 0 0 0 0 budget 1000000"
+        self.check(run(given=b"expect 0 0 visits 0\n"), 0, f"best 0 worst 0 visits 0\n{asked}\n"
+                   f"line 1: as expected at {asked}: best 0 worst 0 visits 0\n")
+        for words in ([], ["--bytes"], ["--json"], ["--bytes", "--json"]):
+            self.check(run(*words), 2, "", "standard input: there is no record")
+        self.check(run(given=b"parameters 3\n# nothing\n"), 2, "", "standard input: there is no record")
+
+    def test_unused_values(self) -> None:
+        """A value that no bound uses is told: 1 024 are two values."""
+        ended = run(DISPENSE, "--parameters", "1", "024")
+        self.assertEqual(ended.returncode, 0)
+        self.assertEqual(ended.stderr.decode(), f"{DISPENSE}: note: p2 has a value, and no bound uses it\n")
+
+
+class AsJson(CommandTest):
+    def test_answered(self) -> None:
+        ended = run(DISPENSE, "--json")
+        self.assertEqual((ended.returncode, ended.stderr), (0, b""))
+        figures = {"least": 1054, "most": 1977, "visits": 4}
+        self.assertEqual(json.loads(ended.stdout), {
+            "file": str(DISPENSE), "parameters": [16, 0, 0, 0], "budget": 100, "answer": figures, "refusal": None,
+            "loops": [{"line": 14, "index": "i", "offset": 5, "closed": True, "ceiling": 16},
+                      {"line": 16, "index": "j", "offset": 35, "closed": True, "ceiling": 16}],
+            "expectations": [{"line": 25, "parameters": [16, 0, 0, 0], "budget": 100, "expected": figures,
+                              "answered": figures, "holds": True}]})
+
+    def test_refused(self) -> None:
+        ended = run(DISPENSE, "--json", "--parameters", "2049")
+        said = json.loads(ended.stdout)
+        self.assertEqual((ended.returncode, said["answer"], said["loops"]), (1, None, []))
+        refusal = said["refusal"]
+        self.assertEqual((refusal["number"], refusal["place"], refusal["line"]), (6, 5, 14))
+        self.assertIn("2,048", refusal["limit"])
+        self.assertEqual(refusal["who"], "whoever chose the parameters")
+        self.assertEqual([check["holds"] for check in said["expectations"]], [True])
+
+    def test_bytes(self) -> None:
+        said = json.loads(run("--bytes", "--json", self.sheet("loop i 0..9\nwork 1\nend")).stdout)
+        self.assertEqual(said["loops"], [{"offset": 0, "closed": True, "ceiling": 10}])
+
+    def test_figures_that_doubles_do_not_hold(self) -> None:
+        loops = "".join(f"loop {name} 0..2047\n" for name in "ijkl")
+        ended = run("--json", given=(loops + "work 4095\n" * 3 + "end\n" * 4).encode())
+        self.assertEqual(json.loads(ended.stdout)["answer"]["most"], 3 * 4095 * 2048 ** 4)
+        self.assertIn(b"keeps numbers as doubles", ended.stderr)
+
+
+class Refusals(CommandTest):
+    def check_listing(self, text: str, *errors: str) -> None:
+        self.check(run("-", given=text.encode()), 1, "", *errors)
+
+    def test_of_listings(self) -> None:
+        self.check_listing("work 1\nwork 5000\n", "standard input:2: refused 3 at 5: a field of this record",
+                           "whoever wrote the sheet has to change the field", "limit: least <= most <= 4,095",
+                           "hint: column 6: the least is 5000")
+        self.check_listing("work 1\n" * 65, ":65: refused 4 at 320: the sheet has more than 64 records", "split the sheet",
+                           "limit: a sheet has at most 64 records")
+        self.check_listing("\n\nend\n", ":3: refused 5 at 0: this record may not stand here", "change the nesting", "limit: ",
+                           "hint: nothing is open that this could end")
+        self.check_listing("choice\nloop i 0..9\nwork 1\nend\n", ":5: refused 5 at 32: a loop or a choice is still open",
+                           "add the missing end", "hint: nothing ends what line 1 opens")
+        self.check_listing("loop i 0..1\nloop j 0..2047+i\nend\nend\n", ":2: refused 6 at 25: this loop may make more than 2,048",
+                           "whoever chose the parameters has to", "limit: a loop's ceiling is at most 2,048")
+        self.check_listing("budget 0\nwork 1\n", "standard input: refused 7 at 0: the budget is out of its range",
+                           "whoever placed the call has to")
+
+    def test_of_bytes(self) -> None:
+        for data, errors in {
+            b"\x01\x03\x00": ("refused 1 at 0: the sheet ends inside", "missing bytes", "hint: the bytes there are 01 03 00"),
+            b"\x04\x03\x09": ("refused 2 at 2: no kind", "limit: kinds are 1 to 5", "hint: the byte there is 9"),
+            b"\x01\x05\x00\x03\x00": ("refused 3 at 0: a field", "hint: the record there is 'work 5..3'"),
+            b"\x04\x03" * 32 + b"\x03": ("refused 4 at 64: the sheet has more than 64",),
+            b"\x05": ("refused 5 at 0: this record", "hint: the record there is 'or'"),
+            b"\x04": ("refused 5 at 1: a loop or a choice is still open",),
+        }.items():
+            self.check(run("--bytes", given=data), 1, "", *errors)
+
+    def test_text_taken_for_bytes(self) -> None:
+        self.check(run("--bytes", DISPENSE), 1, "", "refused 2 at 0", "hint: the byte there is 35")
+
+    def test_expected_refusal(self) -> None:
+        """A refusal that is expected holds as expected, and the answer is a refusal all the same."""
+        self.check(run(LISTINGS / "known" / "11-ceiling-too-large.listing"), 1, "line 6: as expected at parameters 0 0 0 0 budget 100: refused 6 at 0\n",
+                   "listing:3: refused 6 at 0")
+
+
+class WrongUses(CommandTest):
+    def test_parameters_without_values(self) -> None:
+        """They are not zeros."""
+        listing = self.file("triangle.listing", TRIANGLE_OVER_P1)
+        self.check(run(listing), 2, "", f"{listing}:1: p1 has no value; give it with --parameters")
+        self.check(run(listing, "--json"), 2, "", "p1 has no value")
+        self.check(run("make", "--input", listing), 2, "", "p1 has no value")
+        second = self.file("second.listing", "parameters 5\nloop i p1..9\nloop j 0..p2\nend\nend\n")
+        self.check(run(second), 2, "", f"{second}:3: p2 has no value")
+        self.check(run(second, "--parameters", "1"), 2, "", "p2 has no value")
+        self.assertEqual(run(second, "--parameters", "1", "2").returncode, 0)
+        expecting = self.file("expecting.listing", TRIANGLE_OVER_P1 + "expect 0 0 visits 0\n")
+        self.check(run(expecting, "--parameters", "0"), 2, "", f"{expecting}:6:1: p1, which line 1 uses, has no value here")
+        self.check(run("--bytes", self.sheet(TRIANGLE_OVER_P1)), 2, "", "the sheet uses p1, which has no value")
+        for bounds in ("-p1..0", "0..-p1", "p4..2p4-3", "1..p1-p3"):
+            self.check(run(given=f"loop i {bounds}\nwork 1\nend\n".encode()), 2, "", "has no value")
+
+    def test_parameters_outside_16_bits(self) -> None:
+        """They are not cut."""
+        listing = self.file("triangle.listing", TRIANGLE_OVER_P1)
+        for value in ("65536", "32768", "-32769", "4294967296", "99999999999999999999999999999999999999999999"):
+            self.check(run(listing, "--parameters", value), 2, "", f"p1 is '{value}'; write a whole number from -32768 to 32767")
+        self.check(run(listing, "--parameters", "1", "2", "70000"), 2, "", "p3 is '70000'")
+        self.check(run(given=b"parameters 65536\n"), 2, "", "standard input:1:12: p1 is 65536")
+
+    def test_arguments(self) -> None:
+        for words, said in [
+            (["--parameters"], "write one to 4 whole numbers"), (["--parameters", "x"], "write one to 4 whole numbers"),
+            (["--parameters", "1", "2", "3", "4", "5"], "write one to 4 whole numbers"),
+            (["--parameters", "1.5"], "p1 is '1.5'"), (["--parameters=1_0"], "p1 is '1_0'"),
+            (["--parameters", "1,024"], "p1 is '1,024'"), (["--parameters=1,2"], "p1 is '1,2'"),
+            (["--parameters", "16", "0x10"], "p2 is '0x10'"), (["--parameters", "1e3"], "p1 is '1e3'"),
+            (["--parameters", "\N{ARABIC-INDIC DIGIT THREE}"], "write one to 4 whole"),
+            (["--parameters", "64", "--parameters", "3"], "--parameters is given twice"),
+            (["--budget", "3", "--budget=4"], "--budget is given twice"),
+            (["--budget", "-1"], "the budget is '-1'"), (["--budget", "4294967296"], "the budget is '4294967296'"),
+            (["--budget", "ten"], "the budget is 'ten'"), (["--budget"], "expected one argument"),
+            (["a", "b"], "unrecognized arguments: b"), (["--param", "1"], "unrecognized arguments"),
+            (["--jsn"], "unrecognized arguments"), (["print", "--json"], "unrecognized arguments"),
+            (["make", "--c", "2x"], "'2x' is no name"), (["make", "--c", "while"], "'while' is no name"),
+            (["make", "--c", ""], "'' is no name"), (["make", "--c", "x", "--input"], "not allowed with"),
+            (["make", "--c", "_Bool"], "'_Bool' is no name"), (["make", "--c", "class"], "'class' is no name"),
+            (["make", "--c", "a__b"], "'a__b' is no name"), (["make", "--c", "x", "--c", "y"], "--c is given twice"),
+            (["print", "--input", "--parameters", "1"], "leave out --parameters"),
+        ]:
+            with self.subTest(words):
+                self.check(run(*words, given=b"work 1\n"), 2, "", said)
+
+    def test_files(self) -> None:
+        for words in ([], ["--bytes"], ["print"], ["make"]):
+            self.check(run(*words, self.folder / "none"), 2, "", "none: can't be read: No such file or directory")
+            self.check(run(*words, self.folder), 2, "", "can't be read: Is a directory")
+        self.check(run("/dev/zero"), 2, "", "/dev/zero: has more than 16,777,216 bytes; give a listing")
+        self.check(run("print", "--input", given=bytes(11)), 2, "", "take 12 bytes, and there are 11")
+        ended = shell("<&-")
+        self.assertEqual((ended.returncode, ended.stdout), (2, b""))
+        self.assertIn(b"standard input: can't be read", ended.stderr)
+
+    def test_other_encodings(self) -> None:
+        for data, said in [
+            ("work 1\n".encode("utf-8-sig"), "standard input:1:1: this is UTF-8 with a byte order mark"),
+            ("work 1\n".encode("utf-16"), "standard input:1:1: this is UTF-16"),
+            ("work 1\n# für\n".encode("latin-1"), "standard input:2:4: the byte 0xfc is not UTF-8"),
+            (b"# all of it\rwork 5\r", "standard input:1:12: the control character 0x0d stands here"),
+            (bytes(16), "standard input:1:1: the control character 0x00 stands here"),
+        ]:
+            self.check(run(given=data), 2, "", said)
+            self.check(run("make", given=data), 2, "", said)
+
+    def test_mistakes_in_a_listing(self) -> None:
+        self.check(run(given=b"work 1\nwrk 2\n"), 2, "", "standard input:2:1: write one of the words work, loop")
+        self.check(run("make", given=b"work 70000\n"), 2, "", "standard input:1:6: the work is 70000; write a number from 0 to")
+
+    def test_output_that_can_not_be_written(self) -> None:
+        for words in ([DISPENSE], [DISPENSE, "--json"], ["make", DISPENSE], ["make", DISPENSE, "--c", "x"], ["--help"],
+                      ["--version"], ["make", "--help"], ["print", self.sheet("work 1")]):
+            with self.subTest(words), open(FULL, "wb") as full:
+                ended = subprocess.run([COMMAND, *map(str, words)], stdout=full, stderr=subprocess.PIPE)
+                self.assertEqual(ended.returncode, 2)
+                self.assertEqual(ended.stderr.decode(), "pumdalin: the output can't be written: No space left on device\n")
+        self.check(run("make", DISPENSE, "--output", FULL), 2, "", "/dev/full: can't be written: No space left on device")
+        self.check(run("make", DISPENSE, "--output", self.folder), 2, "", "can't be written: Is a directory")
+        ended = shell(">&-", DISPENSE)
+        self.assertEqual(ended.returncode, 2)
+        self.assertIn(b"the output can't be written: Bad file descriptor", ended.stderr)
+
+    def test_closed_standard_error(self) -> None:
+        """The status tells all the same, and nothing goes to the standard output instead."""
+        for words, status in [([DISPENSE, "--budget", "0"], 1), ([self.folder / "none"], 2), (["--parameters", "x"], 2)]:
+            self.assertEqual(shell("2>&-", *words).returncode, status)
+        self.assertEqual(shell("2>&-", self.folder / "none").stdout, b"")
+        self.assertEqual(shell(">&- 2>&-", "--help").returncode, 2)
+
+    def test_interrupt(self) -> None:
+        """While it waits for its input."""
+        waiting = subprocess.Popen([COMMAND], stdin=subprocess.PIPE, stdout=subprocess.PIPE, stderr=subprocess.PIPE)
+        time.sleep(1)
+        waiting.send_signal(signal.SIGINT)
+        output, said = waiting.communicate(timeout=60)
+        self.assertEqual((waiting.returncode, output, said), (130, b"", b""))
+
+    def test_package_without_its_library(self) -> None:
+        moved = self.folder / "moved"
+        (moved / "bin").mkdir(parents=True)
+        (moved / "bin" / "pumdalin").write_bytes(Path(COMMAND).read_bytes())
+        (moved / "bin" / "pumdalin").chmod(0o755)
+        (moved / "share").mkdir()
+        (moved / "share" / "pumdalin").symlink_to(Path(COMMAND).resolve().parent.parent / "share" / "pumdalin")
+        command = [str(moved / "bin" / "pumdalin")]
+        ended = subprocess.run([*command, str(DISPENSE)], capture_output=True)
+        self.check(ended, 2, "", "pumdalin: the package's library can't be used", "install the package anew")
+        self.assertEqual(subprocess.run([*command, "--help"], capture_output=True).returncode, 0)
+
+
+    def test_other_modules_on_the_path(self) -> None:
+        """Neither the environment nor the working folder gives the command other modules than its own."""
+        for name in ("json", "pumdalin", "argparse"):
+            self.file(f"{name}.py", "raise SystemExit('another module')\n")
+        ended = subprocess.run([COMMAND, str(DISPENSE)], capture_output=True, cwd=self.folder,
+                               env={**os.environ, "PYTHONPATH": str(self.folder), "PYTHONHOME": "/nowhere"})
+        self.assertEqual((ended.returncode, ended.stdout), (0, run(DISPENSE).stdout), ended.stderr)
+
+
+class MakingAndPrinting(CommandTest):
+    def test_undo_each_other(self) -> None:
+        for path in sorted(LISTINGS.rglob("*.listing")):
+            sheet = run("make", path).stdout
+            printed = run("print", given=sheet)
+            self.assertEqual((printed.returncode, printed.stderr), (0, b""))
+            self.assertEqual(run("make", "-", given=printed.stdout).stdout, sheet)
+            read = run("make", "--input", path)
+            again = run("make", "--input", given=run("print", "--input", given=read.stdout).stdout)
+            self.assertEqual(again.stdout, read.stdout)
+
+    def test_printed(self) -> None:
+        sheet = self.sheet(TRIANGLE_OVER_P1)
+        plain = "loop i 1..p1    # 0\n  loop j i..p1  # 25\n    work 1      # 50\n  end           # 55\nend             # 56\n"
+        self.check(run("print", sheet), 0, plain)
+        self.check(run("print", sheet, "--parameters", "9"), 0, "parameters 9\n" + plain
+                   .replace("# 0\n", "# 0 closed ceiling 9\n").replace("# 25\n", "# 25 closed ceiling 9\n"))
+        self.check(run("print", sheet, "--parameters", "3000"), 0, "# refused 6 at 0: this loop may make more than 2,048 "
+                   "trips at one entry\nparameters 3000\n" + plain)
+
+    def test_printed_refused(self) -> None:
+        self.check(run("print", given=b"\x04\x03\x09"), 1, "choice  # 0\nend     # 1\n"
+                   "refused 2 at 2: no kind of record has this number\n", "refused 2 at 2", "hint: the byte there is 9")
+
+    def test_made_refused(self) -> None:
+        """Nothing is made of a sheet that the reader refuses."""
+        target = self.folder / "made"
+        self.check(run("make", "--output", target, given=b"loop i 0..9\n"), 1, "", "refused 5 at 25", "add the missing end")
+        self.assertFalse(target.exists())
+        self.check(run("make", given=b"work 5..3\n"), 1, "", "standard input:1: refused 3 at 0")
+        self.assertEqual(run("make", given=b"loop i 0..2048\nend\n").returncode, 0)
+
+    def test_output(self) -> None:
+        target = self.folder / "made"
+        self.check(run("make", DISPENSE, "--output", target), 0)
+        self.assertEqual(target.read_bytes(), run("make", DISPENSE).stdout)
+
+    def test_output_that_fails(self) -> None:
+        """What stood in the file stays, and no part of the sheet is left beside it."""
+        folder = self.folder / "closed"
+        folder.mkdir()
+        (folder / "made").write_bytes(b"before")
+        limited = f"ulimit -f 0; {shlex.join([COMMAND, 'make', str(DISPENSE), '--output', str(folder / 'made')])}"
+        ended = subprocess.run(["bash", "-c", limited], capture_output=True)
+        self.assertNotEqual(ended.returncode, 0)
+        self.assertEqual((folder / "made").read_bytes(), b"before")
+        listing = self.file("own.listing", "work 1\n")
+        self.check(run("make", listing, "--output", listing), 2, "", "the listing would be overwritten")
+        self.assertEqual(listing.read_text(), "work 1\n")
+
+    def test_no_bytes_to_a_terminal(self) -> None:
+        main, terminal = pty.openpty()
+        ended = subprocess.run([COMMAND, "make", str(DISPENSE)], stdout=terminal, stderr=subprocess.PIPE)
+        os.close(terminal)
+        os.close(main)
+        self.assertEqual(ended.returncode, 2)
+        self.assertIn(b"would go to the terminal", ended.stderr)
+
+    def test_c_array(self) -> None:
+        for listing in (DISPENSE.read_text(), "# no record\n"):
+            source = self.file("sheet.listing", listing)
+            made = run("make", source, "--c", "valve_sheet")
+            self.assertEqual((made.returncode, made.stderr), (0, b""))
+            self.file("valve.h", made.stdout)
+            program = '#include <stdio.h>\n#include "valve.h"\n' \
+                      "int main(void) { return fwrite(valve_sheet, 1, valve_sheet_length, stdout) != valve_sheet_length; }\n"
+            self.file("write.c", program)
+            built = self.folder / "write"
+            subprocess.run(["cc", "-std=c99", "-Wall", "-Wextra", "-Wpedantic", "-Werror", str(self.folder / "write.c"),
+                            "-o", str(built)], check=True)
+            written = subprocess.run([str(built)], capture_output=True, check=True).stdout
+            self.assertEqual(written, run("make", source).stdout)
+
+
+class Help(CommandTest):
+    def test_version(self) -> None:
+        self.check(run("--version"), 0, f"pumdalin {(ROOT / 'VERSION').read_text().strip()}\n")
+
+    def test_manual_has_every_option(self) -> None:
+        manual = MANUAL.read_text().replace("\\-", "-")
+        for words in ([], ["print"], ["make"]):
+            help_text = run(*words, "--help").stdout.decode()
+            options = set(re.findall(r"--[a-z]+", help_text))
+            self.assertIn("--help", options)
+            for option in options:
+                self.assertIn(option, manual)
+
+
+if __name__ == "__main__":
+    unittest.main()

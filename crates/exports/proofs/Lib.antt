@@ -1,0 +1,3 @@
+pub mod FiguresCalls
+pub mod LentTexts
+pub mod Consequences

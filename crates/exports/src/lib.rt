@@ -1,0 +1,64 @@
+// The calls that are exported to C.
+mod area;
+mod lent_text;
+
+ghost use mathlib.Core.Path.{_≡_};
+ghost use mathlib.Core.List.{[], _∷_};
+ghost use Rattle.meaning.specs.CCall.{cCall};
+ghost use Rattle.meaning.specs.Program.{programText};
+ghost use Rattle.meaning.specs.TextCall.{textCall, textIn};
+ghost use Rattle.exports.specs.Demand.{Stored};
+use crate::area::AREA_LENGTH;
+use crate::area::LENGTH_SIZE;
+use crate::area::put_figures;
+use crate::lent_text::store_text;
+use figures::Answer;
+use figures::cycles;
+use text::TEXT_LENGTH;
+use text::Text;
+use text::program_text;
+
+// The C call: what the library call answers, in the area that the caller lends.
+#[no_mangle]
+pub extern "C" fn pumdalin_figures(
+    sheet: &[u8],
+    p1: i16,
+    p2: i16,
+    p3: i16,
+    p4: i16,
+    budget: u32,
+    answer: &mut [u8],
+) -> u32
+    ensures number { λ r. ⌜ r ≡ cCall (now (sheet .entry)) (p1 ∷ p2 ∷ p3 ∷ p4 ∷ []) budget (now (answer .entry)) .number ⌝ }
+    ensures bytes { λ _. ⌜ now (answer .exit) ≡ cCall (now (sheet .entry)) (p1 ∷ p2 ∷ p3 ∷ p4 ∷ []) budget (now (answer .entry)) .area ⌝ }
+    ensures demand3 { λ r. ⌜ Stored (now (sheet .entry)) (p1 ∷ p2 ∷ p3 ∷ p4 ∷ []) r (now (answer .exit)) ⌝ }
+{
+    if answer.len() < AREA_LENGTH {
+        return 9;
+    }
+    let a = cycles(sheet, [p1, p2, p3, p4], budget);
+    match a {
+        Answer::Figured(f) => {
+            put_figures(answer, f);
+            0
+        }
+        Answer::Refused(r) => r.number,
+    }
+}
+
+// The text call: what `bound` prints for this input, in the buffer that the caller lends, and its length in the area.
+#[no_mangle]
+pub extern "C" fn pumdalin_text(input: &[u8], text: &mut [u8], answer: &mut [u8]) -> u32
+    ensures number { λ r. ⌜ r ≡ textCall (now (input .entry)) (now (text .entry)) (now (answer .entry)) .number ⌝ }
+    ensures text { λ _. ⌜ now (text .exit) ≡ textCall (now (input .entry)) (now (text .entry)) (now (answer .entry)) .text ⌝ }
+    ensures area { λ _. ⌜ now (answer .exit) ≡ textCall (now (input .entry)) (now (text .entry)) (now (answer .entry)) .area ⌝ }
+    ensures reads { λ r. ⌜ (r ≡ 0 → textIn (now (text .exit)) (now (answer .exit)) ≡ programText (now (input .entry))) ⌝ }
+{
+    if answer.len() < LENGTH_SIZE {
+        9
+    } else {
+        let mut buffer: Text = [0; TEXT_LENGTH];
+        let length = program_text(input, &mut buffer);
+        store_text(&buffer[..length], text, answer)
+    }
+}

@@ -1,0 +1,39 @@
+// Whether the text call stores what is reckoned.
+use crate::cases::Case;
+use crate::compare::same_bytes;
+use crate::compare::still_filled;
+use crate::numbers::unsigned64_at;
+use exports::pumdalin_text;
+
+// The text call on the first bytes of two spaces.
+fn text_into(
+    input: &[u8],
+    space: &mut [u8],
+    room: usize,
+    area: &mut [u8],
+    area_room: usize,
+) -> u32 {
+    if space.len() < room {
+        return 0;
+    }
+    if area.len() < area_room {
+        return 0;
+    }
+    pumdalin_text(input, &mut space[..room], &mut area[..area_room])
+}
+
+// The text and its length at the start of the two spaces, and every other byte as it was; a refusal leaves all of them.
+pub(crate) fn text_agrees(case: Case, input: &[u8], text: &[u8]) -> bool {
+    let mut space: [u8; 4096] = [167; 4096];
+    let mut area: [u8; 32] = [167; 32];
+    let number = text_into(input, &mut space, case.buffer, &mut area, case.count);
+    if number != (case.number as u32) {
+        return false;
+    }
+    if number != 0 {
+        return still_filled(&space, 0) && still_filled(&area, 0);
+    }
+    let length = text.len();
+    let stored = unsigned64_at(&area, 0) == (length as u64) && still_filled(&area, 8);
+    stored && same_bytes(&space, text, length) && still_filled(&space, length)
+}

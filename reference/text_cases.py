@@ -1,0 +1,45 @@
+"""Stored cases of the text call, for the program that runs them.
+
+    python3 text_cases.py FILE [--check]
+
+writes FILE, or with --check compares it with what stands there. A case has the
+header of sheet_cases.py with 6 as its first byte and the call's number as its
+second; the input stands for the sheet. The other numbers are the length of what
+follows the input, nothing, the lengths of the area and of the buffer that are
+lent. The text follows, where the call stores it.
+"""
+
+from itertools import islice
+
+from agreement_calls import TextCall
+from agreement_cases import kept_texts, random_trials
+from calls import text_called
+from stored import main, numbers
+
+SEED = 2053
+RANDOM_CASES = 400
+TEXTS = 6
+# The program has so much room for an input, for a buffer and for an area.
+MOST_INPUT = 4096
+MOST_BUFFER = 4096
+MOST_AREA = 32
+
+
+def text_case(call: TextCall) -> bytes:
+    number = text_called(call.text, call.buffer, call.area).number
+    text = b"" if number else call.text
+    head = bytes([TEXTS, number]) + numbers(len(call.data), len(text), 0, len(call.area), len(call.buffer))
+    return head + call.data + text
+
+
+def has_room(call: TextCall) -> bool:
+    return len(call.data) <= MOST_INPUT and len(call.buffer) <= MOST_BUFFER and len(call.area) <= MOST_AREA
+
+
+def all_cases() -> bytes:
+    calls = kept_texts() + [trial.text for trial in islice(random_trials(SEED), RANDOM_CASES)]
+    return b"".join(text_case(call) for call in calls if has_room(call))
+
+
+if __name__ == "__main__":
+    main(all_cases)
