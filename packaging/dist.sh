@@ -14,6 +14,12 @@ with_version() {
     sed "s/@VERSION@/$version/g; s/@LIBRARY@/$compatible/g" "$1" >"$package/$2"
 }
 
+# The pkg-config file of a name, for the shared or the static library.
+pkg_config() {
+    with_version packaging/pumdalin.pc.in "lib/pkgconfig/$1.pc"
+    sed -i "s|@NAME@|$1|; s|@KIND@|$2|; s|@LIBS@|$3|" "$package/lib/pkgconfig/$1.pc"
+}
+
 rm -rf "$package"
 install -D -m 644 -t "$package/include" include/pumdalin.h
 install -D -m 644 "$archive" "$package/lib/libpumdalin.a"
@@ -21,8 +27,8 @@ cc -shared -Wl,--whole-archive "$archive" -Wl,--no-whole-archive -Wl,--version-s
     -Wl,-soname,"$compatible" -Wl,-z,text -Wl,-z,defs -Wl,-z,noexecstack -o "$package/lib/$library.$version"
 ln -s "$library.$version" "$package/lib/$compatible"
 ln -s "$compatible" "$package/lib/$library"
-with_version packaging/pumdalin.pc.in lib/pkgconfig/pumdalin.pc
-with_version packaging/pumdalin-static.pc.in lib/pkgconfig/pumdalin-static.pc
+pkg_config pumdalin shared '-L${libdir} -lpumdalin'
+pkg_config pumdalin-static static '${libdir}/libpumdalin.a'
 with_version packaging/pumdalin-config.cmake.in lib/cmake/pumdalin/pumdalin-config.cmake
 with_version packaging/pumdalin-config-version.cmake.in lib/cmake/pumdalin/pumdalin-config-version.cmake
 

@@ -15,7 +15,8 @@ from generate import SIZES, Case, cases
 from kept import kept_cases
 from pumdalin.answers import Answer, Figures
 from pumdalin.inputs import encode_parameters
-from stored import main, numbers
+from pumdalin.records import two_bytes_each
+from stored import main
 
 SEED = 2051
 # of each size, three sheets each: valid, damaged, hostile
@@ -35,7 +36,7 @@ def figure_case(case: Case, result: Answer) -> bytes:
     else:
         number, value = result
         area = bytes(24)
-    head = bytes([FIGURES, number]) + numbers(len(case.sheet), 0, value, 0, 0)
+    head = bytes([FIGURES, number]) + two_bytes_each(len(case.sheet), 0, value, 0, 0)
     given = encode_parameters(case.parameters) + case.budget.to_bytes(4, "little")
     return head + case.sheet + given + area
 

@@ -17,7 +17,8 @@ from kept import kept_cases
 from nest import accepted, loop_reports
 from pumdalin.answers import LoopReport, Refusal
 from pumdalin.inputs import Parameters, encode_parameters
-from stored import main, numbers
+from pumdalin.records import two_bytes_each
+from stored import main
 
 SEED = 2050
 # of each size, three sheets each: valid, damaged, hostile
@@ -36,8 +37,8 @@ def plan_case(sheet: bytes, parameters: Parameters) -> bytes:
     else:
         found = loop_reports(records, parameters)
         number, value = 0, len(records)
-    head = bytes([PLAN, number]) + numbers(len(sheet), len(found), value, 0, 0)
-    lines = [numbers(r.offset) + bytes([r.closed]) + numbers(r.ceiling) for r in found]
+    head = bytes([PLAN, number]) + two_bytes_each(len(sheet), len(found), value, 0, 0)
+    lines = [two_bytes_each(r.offset) + bytes([r.closed]) + two_bytes_each(r.ceiling) for r in found]
     return head + sheet + encode_parameters(parameters) + b"".join(lines)
 
 

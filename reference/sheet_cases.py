@@ -23,9 +23,9 @@ import readings
 from generate import SIZES, damaged_sheet, valid_records
 from hostile import hostile_sheet
 from pumdalin.answers import Refusal
-from pumdalin.records import encode_all, encode_form
+from pumdalin.records import encode_all, encode_form, two_bytes_each
 from sheet import RawRecord, raw, read, write
-from stored import main, numbers
+from stored import main
 from writer_cases import WRITER_CASES, WriterCase
 
 SEED = 2049
@@ -39,7 +39,7 @@ WRITER = 2
 
 
 def entry_bytes(entry: RawRecord) -> bytes:
-    costs = numbers(entry.least, entry.most, entry.start, entry.step, entry.stride)
+    costs = two_bytes_each(entry.least, entry.most, entry.start, entry.step, entry.stride)
     return bytes([entry.kind]) + costs + encode_form(entry.lower) + encode_form(entry.upper)
 
 
@@ -52,7 +52,7 @@ def reader_case(sheet: bytes) -> bytes:
     else:
         entries = [raw(record) for record in result]
         number, value = 0, len(entries)
-    head = bytes([READER, number]) + numbers(len(sheet), len(entries), value, 0, 0)
+    head = bytes([READER, number]) + two_bytes_each(len(sheet), len(entries), value, 0, 0)
     return head + sheet + b"".join(map(entry_bytes, entries))
 
 
@@ -66,7 +66,7 @@ def writer_case(case: WriterCase) -> bytes:
         number, value = 0, result.answer
         sheet = result.buffer[:value]
     head = bytes([WRITER, number])
-    head += numbers(len(sheet), len(case.entries), value, case.count, len(case.buffer))
+    head += two_bytes_each(len(sheet), len(case.entries), value, case.count, len(case.buffer))
     return head + sheet + b"".join(map(entry_bytes, case.entries))
 
 

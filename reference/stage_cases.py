@@ -19,9 +19,9 @@ from generate import SIZES, Case, parameters, valid_records
 from kept import kept_cases
 from pumdalin.answers import Refusal
 from pumdalin.inputs import encode_parameters
-from pumdalin.records import encode_all
+from pumdalin.records import encode_all, two_bytes_each
 from stages import Nest, State, at_end, first_state, nest_of, next_state
-from stored import main, numbers
+from stored import main
 from tree import has_choice_with_loop, height, loops_directly_in, tree
 from trips import trips_of
 
@@ -51,7 +51,7 @@ def states_of(nest: Nest) -> list[State]:
 
 def line(state: State) -> bytes:
     sums = state.current.least.to_bytes(8, "little") + state.current.most.to_bytes(8, "little")
-    return numbers(state.position) + state.visits.to_bytes(4, "little") + sums
+    return two_bytes_each(state.position) + state.visits.to_bytes(4, "little") + sums
 
 
 def stored(case: Case) -> bytes:
@@ -60,7 +60,7 @@ def stored(case: Case) -> bytes:
     states = [first_state()] if isinstance(nest, Refusal) else states_of(nest)
     if not states:
         return b""
-    head = bytes([STAGES, 0]) + numbers(len(case.sheet), len(states), 0, 0, 0)
+    head = bytes([STAGES, 0]) + two_bytes_each(len(case.sheet), len(states), 0, 0, 0)
     return head + case.sheet + encode_parameters(case.parameters) + b"".join(map(line, states))
 
 

@@ -1,12 +1,8 @@
-"""What the generators of files share: numbers in bytes, and writing or comparing a file."""
+"""What the generators of files share: writing or comparing a file."""
 
 import argparse
 import sys
 from typing import Callable
-
-
-def numbers(*values: int) -> bytes:
-    return b"".join(value.to_bytes(2, "little") for value in values)
 
 
 def main(all_cases: Callable[[], bytes]) -> None:

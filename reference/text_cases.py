@@ -14,7 +14,8 @@ from itertools import islice
 from agreement_calls import TextCall
 from agreement_cases import kept_texts, random_trials
 from calls import text_called
-from stored import main, numbers
+from pumdalin.records import two_bytes_each
+from stored import main
 
 SEED = 2053
 RANDOM_CASES = 400
@@ -28,7 +29,7 @@ MOST_AREA = 32
 def text_case(call: TextCall) -> bytes:
     number = text_called(call.text, call.buffer, call.area).number
     text = b"" if number else call.text
-    head = bytes([TEXTS, number]) + numbers(len(call.data), len(text), 0, len(call.area), len(call.buffer))
+    head = bytes([TEXTS, number]) + two_bytes_each(len(call.data), len(text), 0, len(call.area), len(call.buffer))
     return head + call.data + text
 
 

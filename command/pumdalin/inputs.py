@@ -20,6 +20,11 @@ def filled(values: tuple[int, ...]) -> Parameters:
     return first, second, third, fourth
 
 
+def without_value(used: list[int], values: tuple[int, ...]) -> list[int]:
+    """The parameters among these, numbered from 0, that no value is given for."""
+    return [parameter for parameter in used if parameter >= len(values)]
+
+
 def encode_parameters(parameters: Parameters) -> bytes:
     """2 bytes each, low byte first."""
     return b"".join(value.to_bytes(2, "little", signed=True) for value in parameters)

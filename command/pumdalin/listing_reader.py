@@ -11,7 +11,7 @@ from typing import Callable, NamedTuple, Optional
 from pumdalin.answers import Answer, Figures, Refusal
 from pumdalin.errors import ListingError
 from pumdalin.inputs import (
-    BUDGET_RANGE, LARGEST_BUDGET, PARAMETER_RANGE, STORED_BUDGET_RANGE, Parameters, filled,
+    BUDGET_RANGE, LARGEST_BUDGET, PARAMETER_RANGE, STORED_BUDGET_RANGE, Parameters, filled, without_value,
 )
 from pumdalin.listing_bound import read_form
 from pumdalin.listing_line import Line
@@ -111,11 +111,9 @@ def read_listing(text: str) -> Listing:
 
 def check_values(listing: Listing, expectation: Expectation) -> None:
     """Whether an expectation has a value for each parameter that the sheet uses."""
-    for parameter in used_parameters(listing.records):
-        if parameter >= len(expectation.values):
-            name = PARAMETER_NAMES[parameter]
-            raise ListingError(expectation.line, 1, f"{name}, which line {listing.first_use(parameter)} uses, "
-                               f"has no value here; write it in a line 'parameters' above")
+    for parameter in without_value(used_parameters(listing.records), expectation.values):
+        raise ListingError(expectation.line, 1, f"{PARAMETER_NAMES[parameter]}, which line {listing.first_use(parameter)} "
+                           "uses, has no value here; write it in a line 'parameters' above")
 
 
 def read_line(line: Line, listing: Listing) -> None:

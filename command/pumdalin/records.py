@@ -127,6 +127,7 @@ def encode(record: Record) -> bytes:
 
 
 def two_bytes_each(*numbers: int) -> bytes:
+    """Unsigned numbers, low byte first."""
     return b"".join(number.to_bytes(2, "little") for number in numbers)
 
 

@@ -12,7 +12,6 @@ WRITER = "whoever wrote the sheet"
 CHOOSER = "whoever chose the parameters"
 CALLER = "whoever placed the call"
 
-
 NESTING = (f"each loop and each choice has one end; a next arm stands directly in a choice; loops go at most "
            f"{MOST_LOOPS_DEEP} deep; at most {MOST_OPEN} loops and choices are open together")
 

@@ -5,9 +5,9 @@ from typing import Optional, Union
 from pumdalin.answers import FIXED_REFUSALS, PLACED_REFUSALS, LoopReport, Refusal, Report
 from pumdalin.characters import decoded
 from pumdalin.errors import CommandError, ListingError
-from pumdalin.files import read_file, shown_name
+from pumdalin.files import read_file, shown_name, tell
 from pumdalin.hints import bytes_hint, listing_hint
-from pumdalin.inputs import LARGEST_BUDGET, filled
+from pumdalin.inputs import LARGEST_BUDGET, filled, without_value
 from pumdalin.library import Library
 from pumdalin.listing_reader import Expectation, Listing, read_listing
 from pumdalin.listing_text import PARAMETER_NAMES, index_name
@@ -52,7 +52,7 @@ class ListingSubject:
     def hint(self, refusal: Refusal) -> Optional[str]:
         return listing_hint(self.listing, refusal)
 
-    def without_value(self, parameter: int) -> CommandError:
+    def value_error(self, parameter: int) -> CommandError:
         return CommandError(f"{PARAMETER_NAMES[parameter]} has no value; give it with --parameters, or in a line "
                             "'parameters' of the listing", f"{self.name}:{self.listing.first_use(parameter)}")
 
@@ -85,7 +85,7 @@ class SheetSubject:
     def hint(self, refusal: Refusal) -> Optional[str]:
         return bytes_hint(self.sheet, refusal)
 
-    def without_value(self, parameter: int) -> CommandError:
+    def value_error(self, parameter: int) -> CommandError:
         return CommandError(f"the sheet uses {PARAMETER_NAMES[parameter]}, which has no value; give it with "
                             "--parameters", self.name)
 
@@ -117,6 +117,11 @@ def refusal_lines(subject: Subject, refusal: Refusal) -> list[str]:
     return [f"{place}: {words}" for words in said]
 
 
+def tell_refusal(subject: Subject, refusal: Refusal) -> None:
+    for line in refusal_lines(subject, refusal):
+        tell(line)
+
+
 def ask(library: Library, subject: Subject, values: tuple[int, ...], budget: int) -> Report:
     """The report of a subject; an error where a parameter that it uses has no value."""
     report = library.report(subject.sheet, filled(values), budget)
@@ -127,6 +132,5 @@ def ask(library: Library, subject: Subject, values: tuple[int, ...], budget: int
 
 def require_values(subject: Subject, values: tuple[int, ...]) -> None:
     """An error where a parameter that the sheet uses has no value: it would count as 0."""
-    for parameter in subject.used():
-        if parameter >= len(values):
-            raise subject.without_value(parameter)
+    for parameter in without_value(subject.used(), values):
+        raise subject.value_error(parameter)

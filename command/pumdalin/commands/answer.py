@@ -14,7 +14,7 @@ from pumdalin.library import Library
 from pumdalin.listing_reader import Expectation
 from pumdalin.listing_text import PARAMETER_NAMES
 from pumdalin.refusals import words_for
-from pumdalin.subjects import Subject, ask, read_subject, refusal_lines
+from pumdalin.subjects import Subject, ask, read_subject, tell_refusal
 
 DESCRIPTION = """\
 Least and most cycles that the code of a sheet can take, the visits that the answer
@@ -108,8 +108,7 @@ def write_words(outcome: Outcome) -> None:
               for check in outcome.checks if check.holds()]
     write_text(lines)
     if isinstance(outcome.answer, Refusal):
-        for line in refusal_lines(outcome.subject, outcome.answer):
-            tell(line)
+        tell_refusal(outcome.subject, outcome.answer)
     for check in outcome.checks:
         if not check.holds():
             tell(f"{outcome.subject.name}:{check.expected.line}: at {check.asked()} expected "

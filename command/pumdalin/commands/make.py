@@ -6,10 +6,10 @@ from typing import Optional
 
 from pumdalin.arguments import Once, add_file, parser_for
 from pumdalin.errors import ANSWERED, REFUSED
-from pumdalin.files import STANDARD_OUTPUT, tell, write_file, write_output
+from pumdalin.files import STANDARD_OUTPUT, write_file, write_output
 from pumdalin.inputs import filled, program_input
 from pumdalin.library import Library
-from pumdalin.subjects import ListingSubject, read_listing_file, refusal_lines, require_values
+from pumdalin.subjects import ListingSubject, read_listing_file, require_values, tell_refusal
 
 SUMMARY = "a listing as the bytes of its sheet"
 DESCRIPTION = """\
@@ -47,8 +47,7 @@ def run(words: list[str], library: Library) -> int:
     subject = read_listing_file(given.file)
     refusal = library.reader_refusal(subject.sheet)
     if refusal:
-        for line in refusal_lines(subject, refusal):
-            tell(line)
+        tell_refusal(subject, refusal)
         return REFUSED
     write(given.output, made(subject, given.c, given.input))
     return ANSWERED

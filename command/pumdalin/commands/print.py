@@ -5,12 +5,12 @@ from typing import Optional
 from pumdalin.answers import Refusal, Report
 from pumdalin.arguments import add_file, add_parameters, parser_for
 from pumdalin.errors import ANSWERED, REFUSED, CommandError
-from pumdalin.files import read_file, shown_name, tell, write_text
-from pumdalin.inputs import HEADER_LENGTH, LARGEST_BUDGET, filled, from_input
+from pumdalin.files import read_file, shown_name, write_text
+from pumdalin.inputs import HEADER_LENGTH, LARGEST_BUDGET, filled, from_input, without_value
 from pumdalin.library import Library
 from pumdalin.listing_text import comment, listing_lines
 from pumdalin.refusals import summary
-from pumdalin.subjects import SheetSubject, refusal_lines
+from pumdalin.subjects import SheetSubject, tell_refusal
 
 SUMMARY = "a sheet's bytes as a listing"
 DESCRIPTION = """\
@@ -45,13 +45,14 @@ def print_sheet(subject: SheetSubject, values: tuple[int, ...], budget: Optional
     head = [comment(summary(report.answer, subject.sheet))] if report and isinstance(report.answer, Refusal) else []
     loops = report.loops if report else []
     write_text(head + listing_lines(subject.sheet, refusal, loops, values, budget))
-    for line in refusal_lines(subject, refusal) if refusal else []:
-        tell(line)
-    return REFUSED if refusal else ANSWERED
+    if refusal is None:
+        return ANSWERED
+    tell_refusal(subject, refusal)
+    return REFUSED
 
 
 def report_at(subject: SheetSubject, values: tuple[int, ...], budget: Optional[int], library: Library) -> Optional[Report]:
     """What is said of the sheet; nothing where a parameter that it uses has no value."""
-    if any(parameter >= len(values) for parameter in subject.used()):
+    if without_value(subject.used(), values):
         return None
     return library.report(subject.sheet, filled(values), LARGEST_BUDGET if budget is None else budget)
