@@ -78,6 +78,7 @@ cases:
 	python3 reference/figure_cases.py crates/vectors/data/figures --check
 	python3 reference/stage_cases.py crates/vectors/data/stages --check
 	python3 reference/text_cases.py crates/vectors/data/texts --check
+	python3 reference/reason_cases.py crates/vectors/data/reasons --check
 
 cross-check:
 	$(need) rt cc python3

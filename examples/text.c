@@ -13,10 +13,18 @@ static const uint8_t one_work[] = {0, 0, 0, 0, 0, 0, 0, 0, 100, 0, 0, 0, 1, 3, 0
 static const uint8_t one_loop[] = {
     2, 0, 0, 0, 0, 0, 0, 0, 100, 0, 0, 0,
     2, 0, 0, 0, 0, 1, 0, 1, 0, 0, 0, 0, 0, 0, 0, 0, 0, 0, 0, 0, 0, 1, 0, 0, 0, 1, 1, 0, 1, 0, 3};
+/* The parameters 0; a loop i 0..9 over a loop j 0..i by 2 over work 1. */
+static const uint8_t uneven_loops[] = {
+    0, 0, 0, 0, 0, 0, 0, 0, 100, 0, 0, 0,
+    2, 0, 0, 0, 0, 1, 0, 0, 0, 0, 0, 0, 0, 0, 0, 0, 9, 0, 0, 0, 0, 0, 0, 0, 0,
+    2, 0, 0, 0, 0, 2, 0, 0, 0, 0, 0, 0, 0, 0, 0, 0, 0, 0, 1, 0, 0, 0, 0, 0, 0,
+    1, 1, 0, 1, 0, 3, 3};
 static const uint8_t kind_9[] = {0, 0, 0, 0, 0, 0, 0, 0, 100, 0, 0, 0, 9};
 
 #define ONE_WORK "best 3 worst 5 visits 0\n"
 #define ONE_LOOP "best 2 worst 2 visits 1\nloop 0 closed ceiling 2\n"
+#define UNEVEN_LOOPS \
+    "best 30 worst 30 visits 20\nloop 0 walked ceiling 10\nloop 25 is uneven in loop 0\nloop 25 closed ceiling 5\n"
 #define REFUSED_2 "refused 2 at 0\n"
 #define REFUSED_1 "refused 1 at 0\n"
 
@@ -37,6 +45,7 @@ struct call {
 static const struct call calls[] = {
     {"a work", WHOLE(one_work), LENGTH(ONE_WORK), AREA, 0, ONE_WORK},
     {"a loop", WHOLE(one_loop), LENGTH(ONE_LOOP), AREA, 0, ONE_LOOP},
+    {"a walked loop, with its reason", WHOLE(uneven_loops), LENGTH(UNEVEN_LOOPS), AREA, 0, UNEVEN_LOOPS},
     {"a longer buffer and a longer area", WHOLE(one_loop), LENGTH(ONE_LOOP) + 5, AREA + 3, 0, ONE_LOOP},
     {"a refused sheet", WHOLE(kind_9), 100, AREA, 0, REFUSED_2},
     {"11 bytes of input", one_work, 11, 100, AREA, 0, REFUSED_1},

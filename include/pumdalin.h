@@ -38,7 +38,7 @@ enum pumdalin_refusal {
 enum {
     PUMDALIN_AREA_LENGTH = 24,       /* bytes of the area that takes figures */
     PUMDALIN_LENGTH_AREA_LENGTH = 8, /* bytes of the area that takes a text's length */
-    PUMDALIN_TEXT_LENGTH = 4049,     /* bytes that hold every text of pumdalin_text */
+    PUMDALIN_TEXT_LENGTH = 4145,     /* bytes that hold every text of pumdalin_text */
     PUMDALIN_FIGURES_STACK = 10000,  /* bytes of stack that suffice for pumdalin_figures */
     PUMDALIN_TEXT_STACK = 20000      /* and for pumdalin_text */
 };
@@ -52,9 +52,10 @@ uint32_t pumdalin_figures(const uint8_t *sheet, size_t sheet_length,
                           uint8_t *answer, size_t answer_length);
 
 /* Stores what the program `bound` prints for this input: four parameters of 2 bytes each, a budget of 4 bytes, and the sheet,
- * low bytes first. The text goes into the buffer, its length, 8 bytes, low byte first, into the area. A refusal of the sheet
- * is text too: the call itself refuses 9 for an area of under 8 bytes, and then 12 for a buffer that is shorter than the
- * text. */
+ * low bytes first. The text goes into the buffer, its length, 8 bytes, low byte first, into the area. It has a line with the
+ * figures, at most 81 bytes; then for each loop, of which there are at most 32, a line of at most 62 and, after that of a
+ * walked loop, a line of at most 65 that says why it is walked. A refusal of the sheet is text too: the call itself refuses 9
+ * for an area of under 8 bytes, and then 12 for a buffer that is shorter than the text. */
 uint32_t pumdalin_text(const uint8_t *input, size_t input_length,
                        uint8_t *text, size_t text_length,
                        uint8_t *answer, size_t answer_length);

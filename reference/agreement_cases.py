@@ -12,11 +12,13 @@ from call_cases import C_CALL_CASES, TEXT_CALL_CASES, TEXT_CASES
 from calls import ANSWER_LENGTH, TEXT_AREA_LENGTH, answer, answer_text, program_text, reports
 from figure_cases import with_edges
 from generate import SIZES, Case, cases
+from known_reasons import KNOWN_REASONS
 from pumdalin.answers import Answer
 from pumdalin.characters import decoded
 from pumdalin.errors import ListingError
 from pumdalin.inputs import program_input
 from pumdalin.listing_reader import read_listing
+from walked import BUDGET, walked_case
 
 
 class Expected(NamedTuple):
@@ -80,8 +82,11 @@ def kept_trials() -> list[Trial]:
 
 
 def kept_texts() -> list[TextCall]:
-    """The cases of `bound` and those of the text call."""
-    texts: list[TextCall] = []
+    """The cases of `bound`, those of the text call, those of document 02, and known reasons."""
+    texts = requested_texts()
+    for reasons in KNOWN_REASONS:
+        data = program_input(reasons.sheet(), reasons.parameters, BUDGET)
+        texts.append(sufficient_text_call(f"reasons of '{reasons.tells}'", data, program_text(data)))
     for printed in TEXT_CASES:
         text = program_text(printed.data)
         texts.append(sufficient_text_call(f"text '{printed.tells}'", printed.data, text))
@@ -91,12 +96,21 @@ def kept_texts() -> list[TextCall]:
     return texts
 
 
+def requested_texts() -> list[TextCall]:
+    """What document 02 asks to be printed: with just as much buffer as it takes, and one byte short."""
+    texts: list[TextCall] = []
+    for printed in readings.parse_requests():
+        text = sufficient_text_call(f"{printed.request} '{printed.tells}'", printed.data, printed.text)
+        texts += [text, replace(text, buffer=text.buffer[1:])]
+    return texts
+
+
 def random_trials(seed: int) -> Iterator[Trial]:
-    """Trials without end: valid, damaged and hostile sheets of all sizes."""
+    """Trials without end: valid, damaged and hostile sheets of all sizes, and walked ones."""
     random = Random(seed)
     number = 0
     for size in cycle(SIZES.values()):
-        for case in cases(random, 1, size):
+        for case in [*cases(random, 1, size), walked_case(random)]:
             for edge, result in with_edges(case):
                 number += 1
                 tells = f"seed {seed}, case {number}: a {case.kind} sheet"

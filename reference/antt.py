@@ -2,9 +2,11 @@
 
 from typing import NamedTuple, Optional
 
-from pumdalin.answers import Answer, Figures, LoopReport
+from nest import ReckonedLoop
+from pumdalin.answers import Answer, Figures
 from pumdalin.inputs import Parameters
 from pumdalin.records import Choice, End, Form, Loop, NextArm, Record, Work
+from reasons import HoldsLoop, Reason, TooFewTrips
 from sheet import RawRecord
 
 # What is on the left is used in this folder, what is on the right is written.
@@ -16,6 +18,10 @@ NAME = {
     "reports": "sheetReportsOf",
     "closed loop": "closedLoop",
     "walked loop": "walkedLoop",
+    "holds loop": "holdsLoop",
+    "too few trips": "tooFewTrips",
+    "uneven in": "unevenIn",
+    "read reason": "readReason",
     "state after": "stateAfter",
     "state": "state",
     "bounds": "bounds",
@@ -69,12 +75,14 @@ SPECS = "use Rattle.meaning.specs."
 PROOFS = "use Rattle.meaning.proofs."
 INSIDE_SPECS = "use Rattle.meaning.specs."
 INSIDE_PROOFS = "use Rattle.meaning.proofs."
+REASONS = "holdsLoop, tooFewTrips, unevenIn"
 
 
-def answer_lines(specs: str, proofs: str, results: str) -> list[str]:
+def answer_lines(specs: str, proofs: str, results: str, reasons: str = REASONS) -> list[str]:
     """What a file of answers and loop reports names of `meaning`."""
     return [
         specs + "Reader.{" + results + "}",
+        specs + "Reason.{" + reasons + "}",
         specs + "Answer.{figures, answer}",
         proofs + "Vocabulary.{hex, zeroParameters, closedLoop, walkedLoop, sheetReportsOf}",
         proofs + "Computes.{computes}",
@@ -83,7 +91,10 @@ def answer_lines(specs: str, proofs: str, results: str) -> list[str]:
 
 IMPORTS = {
     "Readings.antt": [PATH, LIST, INTEGER, *answer_lines(SPECS, PROOFS, "ok, refused")],
-    "Telling.antt": [PATH, LIST, *answer_lines(INSIDE_SPECS, INSIDE_PROOFS, "ok, refused")],
+    "Telling.antt": [
+        PATH, LIST,
+        *answer_lines(INSIDE_SPECS, INSIDE_PROOFS, "ok, refused", "holdsLoop, unevenIn"),
+    ],
     "Known.antt": [PATH, LIST, POSITIVE, *answer_lines(INSIDE_SPECS, INSIDE_PROOFS, "ok")],
     "KnownAnswers.antt": [
         LIST, POSITIVE,
@@ -101,13 +112,15 @@ IMPORTS = {
         PROOFS + "Computes.{computes}",
     ],
     "Calls.antt": [
-        PATH, LIST, INTEGER,
+        PATH, LIST, "use mathlib.Core.Option.{none, some}", INTEGER,
         SPECS + "Limits.{figureLimit, visitsPerLoop, inputLimit}",
         SPECS + "Form.{Form}",
         SPECS + "Reader.{refused, headAt, bodyAt}",
         SPECS + "Writer.{RawRecord, write}",
         SPECS + "CCall.{cCall}",
         SPECS + "Text.{text}",
+        SPECS + "Reason.{" + REASONS + "}",
+        SPECS + "ReasonLine.{readReason}",
         SPECS + "Program.{programText}",
         SPECS + "TextCall.{textCall}",
         PROOFS + "Vocabulary.{hex, zeroParameters, form, raw, written, notWritten, called, textCalled, found, sheetEnd}",
@@ -193,11 +206,23 @@ def answer(value: Answer) -> str:
     return term("refusal", *numbers)
 
 
-def loop_reports(reports: list[LoopReport]) -> str:
-    return inner(listed([
-        term("closed loop" if report.closed else "walked loop", str(report.offset), str(report.ceiling))
-        for report in reports
-    ]))
+def reason(value: Reason) -> str:
+    if isinstance(value, HoldsLoop):
+        return term("holds loop", str(value.choice))
+    if isinstance(value, TooFewTrips):
+        return term("too few trips", str(value.loop))
+    return term("uneven in", str(value.loop), str(value.around))
+
+
+def loop_report(report: ReckonedLoop) -> str:
+    numbers = [str(report.offset), str(report.ceiling)]
+    if report.reason is None:
+        return term("closed loop", *numbers)
+    return term("walked loop", *numbers, inner(reason(report.reason)))
+
+
+def loop_reports(reports: list[ReckonedLoop]) -> str:
+    return inner(listed([loop_report(report) for report in reports]))
 
 
 def theorem(name: str, equations: list[Equation]) -> str:

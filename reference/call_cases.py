@@ -1,4 +1,4 @@
-"""Cases of the C calls, the record reader and the program."""
+"""Cases of the C calls, the record reader, the program, and reasons read back."""
 
 from typing import NamedTuple
 
@@ -116,6 +116,38 @@ TEXT_CASES = [
 ]
 
 
+class ReasonCase(NamedTuple):
+    tells: str
+    line: bytes
+
+
+REASON_CASES = [
+    ReasonCase("a choice's line", b"choice 25 holds a loop\n"),
+    ReasonCase("a line of too few trips", b"loop 50 may fall below no trips\n"),
+    ReasonCase("an uneven loop's line", b"loop 1574 is uneven in loop 0\n"),
+    ReasonCase("offset 0", b"choice 0 holds a loop\n"),
+    ReasonCase("a leading zero", b"choice 01 holds a loop\n"),
+    ReasonCase("a leading zero in the second offset", b"loop 50 is uneven in loop 00\n"),
+    ReasonCase("offset 65,535", b"loop 65535 may fall below no trips\n"),
+    ReasonCase("offset 65,536", b"loop 65536 may fall below no trips\n"),
+    ReasonCase("second offset 65,535", b"loop 65535 is uneven in loop 65535\n"),
+    ReasonCase("second offset 65,536", b"loop 65535 is uneven in loop 65536\n"),
+    ReasonCase("offset 65,536 + 25", b"choice 65561 holds a loop\n"),
+    ReasonCase("no offset", b"choice  holds a loop\n"),
+    ReasonCase("no second offset", b"loop 50 is uneven in loop \n"),
+    ReasonCase("a loop's phrase after a choice", b"choice 25 may fall below no trips\n"),
+    ReasonCase("a choice's phrase after a loop", b"loop 25 holds a loop\n"),
+    ReasonCase("no line feed", b"choice 25 holds a loop"),
+    ReasonCase("no line feed after the second offset", b"loop 50 is uneven in loop 25"),
+    ReasonCase("a line feed too much", b"choice 25 holds a loop\n\n"),
+    ReasonCase("two lines", b"choice 25 holds a loop\nchoice 25 holds a loop\n"),
+    ReasonCase("nothing", b""),
+    ReasonCase("a line feed", b"\n"),
+    ReasonCase("the figures line", b"best 45 worst 45 visits 3\n"),
+    ReasonCase("a loop's line", b"loop 0 walked ceiling 10\n"),
+]
+
+
 class TextCallCase(NamedTuple):
     tells: str
     data: bytes
@@ -133,7 +165,10 @@ def text_call_case(
 
 PRINTED = program_input(TRIANGLE)
 REFUSED = program_input(ONE_WORK + b"\x06")
+WALKED = program_input(UNEVEN)
 MOST_LINES = program_input(encode_all([span(0, 2047, start=4095, step=4095), End()] * 32))
+# 32 loops, of which 24 are walked
+MOST_REASONS = program_input(encode_all(([span(0, 0)] * 3 + [span(0, -5)] + [End()] * 4) * 8))
 TOO_LONG = program_input(b"\x04\x03" * 1000)
 
 TEXT_CALL_CASES = [
@@ -158,5 +193,10 @@ TEXT_CALL_CASES = [
     TextCallCase("nothing at all: 9", b"", b"", b""),
     text_call_case("a line for each of 32 loops", MOST_LINES),
     text_call_case("a line for each of 32 loops, buffer one byte short", MOST_LINES, spare=-1),
+    text_call_case("a reason's line", WALKED),
+    text_call_case("a reason's line, buffer one byte short", WALKED, spare=-1),
+    text_call_case("a reason's line, buffer one byte longer: it stays", WALKED, spare=1),
+    text_call_case("24 reasons", MOST_REASONS),
+    text_call_case("24 reasons, buffer one byte short", MOST_REASONS, spare=-1),
     text_call_case("more input than bound reads", TOO_LONG),
 ]

@@ -4,8 +4,8 @@ from typing import NamedTuple
 
 import stages
 import trips
-from nest import accepted, loop_reports
-from pumdalin.answers import Answer, Figures, LoopReport, Refusal
+from nest import ReckonedLoop, accepted, loop_reports
+from pumdalin.answers import Answer, Figures, Refusal
 from pumdalin.inputs import HEADER_LENGTH, LARGEST_BUDGET, Parameters, from_input
 from pumdalin.records import Record
 from sheet import read
@@ -48,7 +48,7 @@ def times(records: list[Record], parameters: Parameters) -> Bounds:
         return stages.run_stages(nest, LARGEST_BUDGET).current
 
 
-def reports(sheet: bytes, parameters: Parameters) -> list[LoopReport]:
+def reports(sheet: bytes, parameters: Parameters) -> list[ReckonedLoop]:
     """The loop reports of a sheet; none where it is refused 1 to 5."""
     records = read(sheet)
     if isinstance(records, Refusal):
@@ -87,12 +87,12 @@ def program_text(data: bytes) -> bytes:
     return answer_text(answer(sheet, parameters, budget), reports(sheet, parameters))
 
 
-def answer_text(result: Answer, loops: list[LoopReport]) -> bytes:
+def answer_text(result: Answer, loops: list[ReckonedLoop]) -> bytes:
     """The text of an answer; a refusal's has no line for a loop."""
     if isinstance(result, Refusal):
         return f"refused {result.number} at {result.place}\n".encode()
     lines = [f"best {result.least} worst {result.most} visits {result.visits}\n"]
-    lines += [f"loop {report.text()}\n" for report in loops]
+    lines += [loop.text() for loop in loops]
     return "".join(lines).encode()
 
 

@@ -9,9 +9,10 @@ from calls import answer
 from nest import LoopFacts, facts, loop_reports, subtract, value
 from pumdalin.answers import Figures, Refusal
 from pumdalin.inputs import Parameters
-from pumdalin.records import Form, Loop, Record, Work, encode_all
+from pumdalin.records import Choice, End, Form, Loop, Record, Work, encode_all, offsets
+from reasons import HoldsLoop, Reason, TooFewTrips, UnevenIn, read_reason
 from sheet import BLANK, RawRecord, Written, raw, read, write
-from tree import Body, ChoiceNode, LoopNode, loops_directly_in, loops_in, tree
+from tree import Body, ChoiceNode, loops_directly_in, tree
 from trips import Bounds, TooMany
 
 # Every figure is below this; where every loop is closed, there are so many visits a loop at most.
@@ -114,38 +115,67 @@ def push_by_definition(path: list[Loop], form: Form, mover: int, parameters: Par
 
 
 def check_facts(records: list[Record], parameters: Parameters) -> None:
-    """Ranges by corners, pushes by moving a counter, closed by the definition's words."""
+    """Ranges by corners; then why loops are walked."""
     known = facts(records, parameters)
 
-    def closed_inside(node: LoopNode, path: list[Loop], first: int) -> bool:
-        """What closing asks of the loops inside `node`; the tested loop is path[first]."""
-        for choice in [inner for inner in node.body if isinstance(inner, ChoiceNode)]:
-            if any(loops_in(arm) for arm in choice.arms):
-                return False
-        for inner in loops_directly_in(node.body):
-            difference = subtract(inner.loop.upper, inner.loop.lower)
-            moved = [push_by_definition(path, difference, mover, parameters)
-                     for mover in range(first, len(path))]
-            if known[inner.position].difference.smallest < -inner.loop.stride:
-                return False
-            if any(push % inner.loop.stride for push in moved):
-                return False
-            if not closed_inside(inner, path + [inner.loop], first):
-                return False
-        return True
-
-    def go_down(body: Body, path: list[Loop], boxes: list[tuple[int, int]]) -> None:
+    def go_down(body: Body, boxes: list[tuple[int, int]]) -> None:
         for node in loops_directly_in(body):
-            fact: LoopFacts = known[node.position]
             all_d = corners(subtract(node.loop.upper, node.loop.lower), boxes, parameters)
-            assert fact.difference == (min(all_d), max(all_d))
-            own_path = path + [node.loop]
-            assert fact.closed == closed_inside(node, own_path, len(path))
+            assert known[node.position].difference == (min(all_d), max(all_d))
             lo = min(corners(node.loop.lower, boxes, parameters))
             hi = max(lo, max(corners(node.loop.upper, boxes, parameters)))
-            go_down(node.body, own_path, boxes + [(lo, hi)])
+            go_down(node.body, boxes + [(lo, hi)])
 
-    go_down(tree(records), [], [])
+    go_down(tree(records), [])
+    check_reasons(records, parameters, known)
+
+
+def check_reasons(records: list[Record], parameters: Parameters, known: dict[int, LoopFacts]) -> None:
+    """A loop's reason is the first test that fails, and its line reads back to it."""
+    open_records = open_before_each(records)
+    for position, fact in known.items():
+        failing = failing_tests(records, parameters, known, open_records, position)
+        assert fact.reason == (failing[0] if failing else None)
+        if fact.reason is not None:
+            assert read_reason(fact.reason.line().encode()) == fact.reason
+
+
+def open_before_each(records: list[Record]) -> list[list[int]]:
+    """For each record the positions of the loops and choices around it, outermost first."""
+    found: list[list[int]] = []
+    around: list[int] = []
+    for position, record in enumerate(records):
+        found.append(around)
+        if isinstance(record, (Loop, Choice)):
+            around = around + [position]
+        elif isinstance(record, End):
+            around = around[:-1]
+    return found
+
+
+def failing_tests(
+    records: list[Record], parameters: Parameters, known: dict[int, LoopFacts],
+    open_records: list[list[int]], walked: int,
+) -> list[Reason]:
+    """All that keeps the loop at a position from being closed, by going over the records inside it."""
+    places = offsets(records)
+    inside = [at for at, around in enumerate(open_records) if walked in around]
+    loops = [at for at in inside if isinstance(records[at], Loop)]
+    found: list[Reason] = [
+        HoldsLoop(places[at]) for at in inside
+        if isinstance(records[at], Choice) and any(at in open_records[loop] for loop in loops)
+    ]
+    for at in loops:
+        loop = records[at]
+        if known[at].difference.smallest < -loop.stride:
+            found.append(TooFewTrips(places[at]))
+        around = [outer for outer in open_records[at] if isinstance(records[outer], Loop)]
+        path = [records[outer] for outer in around]
+        for mover, outer in enumerate(around):
+            push = push_by_definition(path, subtract(loop.upper, loop.lower), mover, parameters)
+            if outer >= walked and push % loop.stride != 0:
+                found.append(UnevenIn(places[at], places[outer]))
+    return found
 
 
 def random_run(body: Body, indexes: list[int], parameters: Parameters, random: Random) -> int:

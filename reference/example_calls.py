@@ -1,12 +1,13 @@
-"""Calls.antt: the writer, the C calls, the record reader, the program's text, three numbers."""
+"""Calls.antt: the writer, the C calls, the record reader, the program's text, reasons, three numbers."""
 
 import antt
 from antt import Equation, inner, listed, octets, term
-from call_cases import C_CALL_CASES, READER_CASES, TEXT_CALL_CASES, TEXT_CASES
+from call_cases import C_CALL_CASES, READER_CASES, REASON_CASES, TEXT_CALL_CASES, TEXT_CASES
 from calls import INPUT_LIMIT, c_call, program_text, text_call
 from consistency import FIGURE_LIMIT, VISITS_PER_LOOP
 from pumdalin.answers import Refusal
 from pumdalin.records import Form
+from reasons import read_reason
 from sheet import Part, record_at, write
 from writer_cases import (
     CHOICE_ENTRY, END_ENTRY, LOOP_ENTRY, NEXT_ENTRY, WORK_ENTRY, WRITER_CASES, RawRecord,
@@ -105,6 +106,16 @@ def text_call_equations() -> list[Equation]:
     return found
 
 
+def reason_equations() -> list[Equation]:
+    """What a line reads back to."""
+    found: list[Equation] = []
+    for case in REASON_CASES:
+        result = read_reason(case.line)
+        right = term("none") if result is None else term("some", inner(antt.reason(result)))
+        found.append(Equation(case.tells, term("read reason", antt.text(case.line)), right))
+    return found
+
+
 def number_equations() -> list[Equation]:
     """Numbers of the requirement that stand in theorems and that no case meets."""
     return [
@@ -122,7 +133,8 @@ def calls_file(group: int) -> str:
     parts += antt.grouped("record-reader", reader_equations(), group)
     parts += antt.grouped("program-text", text_equations(), group)
     parts += antt.grouped("text-call", text_call_equations(), group)
+    parts += antt.grouped("reading-back", reason_equations(), group)
     parts += antt.grouped("numbers", number_equations(), group)
-    comments = ["The writer, the C calls, the record reader and the program's text, by cases.",
+    comments = ["The writer, the C calls, the record reader, the program's text and reasons read back, by cases.",
                 "Last three numbers that only theorems name."]
     return antt.file_text("Calls.antt", comments, parts)

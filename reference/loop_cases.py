@@ -5,8 +5,10 @@
 writes FILE, or with --check compares it with what stands there. A case has the
 header of sheet_cases.py with 3 as its first byte, the number of loops in place
 of the number of records, and no count and no buffer. After the sheet follow
-the four parameters, 2 bytes each, and for each loop 5 bytes: its offset, 1 for
-closed or 0 for walked, its ceiling.
+the four parameters, 2 bytes each, and for each loop 10 bytes: its offset, 1 for
+closed or 0 for walked, its ceiling; then why it is walked: 1 for a choice that
+holds a loop, 2 for too few trips, 3 for uneven, 0 for a closed loop, and the two
+offsets of its line, 0 for what it has not.
 """
 
 from random import Random
@@ -14,32 +16,42 @@ from random import Random
 import generate
 from generate import SIZES, cases
 from kept import kept_cases
-from nest import accepted, loop_reports
-from pumdalin.answers import LoopReport, Refusal
-from pumdalin.inputs import Parameters, encode_parameters
+from known_reasons import KNOWN_REASONS
+from nest import ReckonedLoop, accepted, loop_reports
+from pumdalin.answers import Refusal
+from pumdalin.inputs import Parameters, encode_parameters, from_input
 from pumdalin.records import two_bytes_each
+from readings import parse_requests
+from reasons import stored_numbers
 from stored import main
+from walked import walked_case
 
 SEED = 2050
 # of each size, three sheets each: valid, damaged, hostile
 RANDOM_CASES = 200
 # of each size, valid ones at several parameters
 VALID_SHEETS = 100
+WALKED_SHEETS = 500
 PLAN = 3
+
+
+def line(loop: ReckonedLoop) -> bytes:
+    sort, first, second = stored_numbers(loop.reason)
+    own = two_bytes_each(loop.offset) + bytes([loop.closed]) + two_bytes_each(loop.ceiling)
+    return own + bytes([sort]) + two_bytes_each(first, second)
 
 
 def plan_case(sheet: bytes, parameters: Parameters) -> bytes:
     """A sheet at parameters, and its loops' lines or refusal 1 to 6."""
     records = accepted(sheet, parameters)
     if isinstance(records, Refusal):
-        found: list[LoopReport] = []
+        found: list[ReckonedLoop] = []
         number, value = records
     else:
         found = loop_reports(records, parameters)
         number, value = 0, len(records)
     head = bytes([PLAN, number]) + two_bytes_each(len(sheet), len(found), value, 0, 0)
-    lines = [two_bytes_each(r.offset) + bytes([r.closed]) + two_bytes_each(r.ceiling) for r in found]
-    return head + sheet + encode_parameters(parameters) + b"".join(lines)
+    return head + sheet + encode_parameters(parameters) + b"".join(map(line, found))
 
 
 def random_cases(random: Random) -> list[bytes]:
@@ -52,9 +64,21 @@ def random_cases(random: Random) -> list[bytes]:
     return made
 
 
+def walked_cases() -> list[bytes]:
+    """Loops that are walked for reasons of all sorts: known ones, those of the requests, random ones."""
+    made = [plan_case(case.sheet(), case.parameters) for case in KNOWN_REASONS]
+    for printed in parse_requests():
+        sheet, parameters, _ = from_input(printed.data)
+        made.append(plan_case(sheet, parameters))
+    random = Random(SEED)
+    for case in (walked_case(random) for _ in range(WALKED_SHEETS)):
+        made.append(plan_case(case.sheet, case.parameters))
+    return made
+
+
 def all_cases() -> bytes:
     made = [plan_case(case.sheet, case.parameters) for case in kept_cases()]
-    return b"".join(made + random_cases(Random(SEED)))
+    return b"".join(made + random_cases(Random(SEED)) + walked_cases())
 
 
 if __name__ == "__main__":

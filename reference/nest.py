@@ -5,8 +5,10 @@ from typing import NamedTuple, Optional, Union
 from pumdalin.answers import LoopReport, Refusal
 from pumdalin.inputs import Parameters
 from pumdalin.records import CEILING_LIMIT, Form, Loop, Record, offsets
+from reasons import HoldsLoop, Reason, TooFewTrips, UnevenIn
 from sheet import read
-from tree import Body, LoopNode, has_choice_with_loop, height, loops_directly_in, loops_in, tree
+from tree import Body, LoopNode, choices_in, height, loops_directly_in, tree
+
 
 class Range(NamedTuple):
     smallest: int
@@ -53,9 +55,28 @@ def trips_for(difference: int, stride: int) -> int:
     return max(0, difference // stride + 1)
 
 
-def pushes_on(loop: Loop, pushes: list[int]) -> int:
-    """What the pushes on the indexes around a loop add to the loop's lower form."""
-    return sum(factor * push for factor, push in zip(loop.lower.indexes, pushes))
+def pushed(form: Form, pushes: list[int]) -> int:
+    """What pushes on the indexes, outermost first, add to a form."""
+    return sum(factor * push for factor, push in zip(form.indexes, pushes))
+
+
+class ReckonedLoop(NamedTuple):
+    """What is printed of a loop: its own line, and where it is walked the reason's."""
+
+    offset: int
+    ceiling: int
+    reason: Optional[Reason]
+
+    @property
+    def closed(self) -> bool:
+        return self.reason is None
+
+    def report(self) -> LoopReport:
+        """What its own line says."""
+        return LoopReport(self.offset, self.closed, self.ceiling)
+
+    def text(self) -> str:
+        return f"loop {self.report().text()}\n" + (self.reason.line() if self.reason else "")
 
 
 class LoopFacts(NamedTuple):
@@ -63,32 +84,40 @@ class LoopFacts(NamedTuple):
 
     difference: Range
     ceiling: int
-    closed: bool
+    # why it is walked
+    reason: Optional[Reason]
     height: int
+
+    @property
+    def closed(self) -> bool:
+        return self.reason is None
 
 
 def facts(records: list[Record], parameters: Parameters) -> dict[int, LoopFacts]:
     """The facts of every loop, by the position of its record, in sheet order."""
     body = tree(records)
     differences = difference_ranges(body, [], parameters)
+    places = offsets(records)
     found: dict[int, LoopFacts] = {}
-    for node, depth in loops_with_depth(body, 1):
+    for path in paths_in(body, []):
+        node = path[-1]
         difference = differences[node.position]
         found[node.position] = LoopFacts(
             difference,
             trips_for(difference.largest, node.loop.stride),
-            is_closed(node, depth, differences),
+            reason_of(path, differences, places),
             height(node),
         )
-    return dict(sorted(found.items()))
+    return found
 
 
-def loops_with_depth(body: Body, depth: int) -> list[tuple[LoopNode, int]]:
-    """All loops of a body with their depths; 1 is outermost."""
-    found: list[tuple[LoopNode, int]] = []
+def paths_in(body: Body, around: list[LoopNode]) -> list[list[LoopNode]]:
+    """All loops of a body in sheet order, each after the loops around it, outermost first."""
+    found: list[list[LoopNode]] = []
     for node in loops_directly_in(body):
-        found.append((node, depth))
-        found += loops_with_depth(node.body, depth + 1)
+        path = around + [node]
+        found.append(path)
+        found += paths_in(node.body, path)
     return found
 
 
@@ -105,36 +134,34 @@ def difference_ranges(
     return found
 
 
-def is_closed(node: LoopNode, depth: int, differences: dict[int, Range]) -> bool:
-    """Whether a loop is closed; otherwise it is walked."""
-    if has_choice_with_loop(node.body):
-        return False
-    for inner in loops_in(node.body):
-        if differences[inner.position].smallest < -inner.loop.stride:
-            return False
-    own_pushes = [0] * (depth - 1) + [node.loop.stride]
-    return divides_inside(node.body, depth, [own_pushes])
+def reason_of(
+    path: list[LoopNode], differences: dict[int, Range], places: list[int]
+) -> Optional[Reason]:
+    """Why the last loop of a path is walked; None if it is closed.
 
-
-def divides_inside(body: Body, depth: int, all_pushes: list[list[int]]) -> bool:
-    """Whether each loop inside has a stride that divides all pushes on its D.
-
-    `all_pushes` has an entry for the tested loop M and for each loop between,
-    outermost first. An entry is the push of that loop on the index at each
-    depth from 1 to `depth`: what its next trip adds there, counters of all
-    other loops held.
+    Choices first, by offset; then the loops K inside in sheet order, for each K too few trips
+    before uneven, and M from the walked loop inward to the one directly around K.
     """
-    for node in loops_directly_in(body):
-        difference = subtract(node.loop.upper, node.loop.lower)
-        for pushes in all_pushes:
-            push = sum(f * p for f, p in zip(difference.indexes, pushes))
-            if push % node.loop.stride != 0:
-                return False
-        longer = [pushes + [pushes_on(node.loop, pushes)] for pushes in all_pushes]
-        own_pushes = [0] * depth + [node.loop.stride]
-        if not divides_inside(node.body, depth + 1, longer + [own_pushes]):
-            return False
-    return True
+    walked = path[-1]
+    for choice in choices_in(walked.body):
+        if choice.holds_loop():
+            return HoldsLoop(places[choice.position])
+    for *around, inner in paths_in(walked.body, path):
+        if differences[inner.position].smallest < -inner.loop.stride:
+            return TooFewTrips(places[inner.position])
+        for mover in range(len(path) - 1, len(around)):
+            if push(around, mover, inner.loop) % inner.loop.stride != 0:
+                return UnevenIn(places[inner.position], places[around[mover].position])
+    return None
+
+
+def push(around: list[LoopNode], mover: int, inner: Loop) -> int:
+    """What the next trip of around[mover] adds to D of a loop inside, counters of all other loops held."""
+    pushes: list[int] = []
+    for depth, node in enumerate(around):
+        own = node.loop.stride if depth == mover else 0
+        pushes.append(own + pushed(node.loop.lower, pushes))
+    return pushed(subtract(inner.upper, inner.lower), pushes)
 
 
 def ceiling_refusal(records: list[Record], parameters: Parameters) -> Optional[Refusal]:
@@ -153,10 +180,10 @@ def accepted(sheet: bytes, parameters: Parameters) -> Union[list[Record], Refusa
     return ceiling_refusal(records, parameters) or records
 
 
-def loop_reports(records: list[Record], parameters: Parameters) -> list[LoopReport]:
-    """Offset, closed or walked, and ceiling of every loop, in sheet order."""
+def loop_reports(records: list[Record], parameters: Parameters) -> list[ReckonedLoop]:
+    """What is printed of every loop, in sheet order."""
     places = offsets(records)
     return [
-        LoopReport(places[position], fact.closed, fact.ceiling)
+        ReckonedLoop(places[position], fact.ceiling, fact.reason)
         for position, fact in facts(records, parameters).items()
     ]

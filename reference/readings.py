@@ -1,9 +1,11 @@
 """Two files of sheets with their answers: readings.txt has those that tell readings of the
 papers apart, telling.txt those that tell a definition from one that is wrong in one place.
+requests.txt has inputs of `bound` that tell readings of document 02 apart.
 
-A line: four parameters, budget, sheet in hex (- if empty), `=>`, then
+A line of the first two: four parameters, budget, sheet in hex (- if empty), `=>`, then
 `ok LEAST MOST VISITS WAYS CEILINGS` (c or w by loop; - if there is none) or
-`refused NUMBER PLACE`; last `#` and what it tells.
+`refused NUMBER PLACE`; last `#` and what it tells. A line of the third: the request, the
+input in hex, `=>`, then the printed text with | for each line feed; last the same.
 """
 
 import os
@@ -16,6 +18,7 @@ from pumdalin.inputs import Parameters
 HERE = os.path.dirname(os.path.abspath(__file__))
 READINGS = os.path.join(HERE, "readings.txt")
 TELLING = os.path.join(HERE, "telling.txt")
+REQUESTS = os.path.join(HERE, "requests.txt")
 
 
 class Reading(NamedTuple):
@@ -25,6 +28,13 @@ class Reading(NamedTuple):
     answer: Answer
     ways: str
     ceilings: list[int]
+    tells: str
+
+
+class Printed(NamedTuple):
+    request: str
+    data: bytes
+    text: bytes
     tells: str
 
 
@@ -46,7 +56,28 @@ def parse_line(line: str) -> Reading:
     )
 
 
-def parse_file(path: str) -> list[Reading]:
+def parse_request(line: str) -> Printed:
+    case, _, tells = line.partition("#")
+    given, _, text = case.partition("=>")
+    request, data = given.split()
+    return Printed(
+        request,
+        bytes.fromhex(data),
+        text.strip().replace("|", "\n").encode(),
+        tells.strip(),
+    )
+
+
+def lines_of(path: str) -> list[str]:
+    """The lines of a file, save those that are empty or comments."""
     with open(path, encoding="utf-8") as file:
         lines = [line.strip() for line in file]
-    return [parse_line(line) for line in lines if line and not line.startswith("#")]
+    return [line for line in lines if line and not line.startswith("#")]
+
+
+def parse_file(path: str) -> list[Reading]:
+    return [parse_line(line) for line in lines_of(path)]
+
+
+def parse_requests() -> list[Printed]:
+    return [parse_request(line) for line in lines_of(REQUESTS)]

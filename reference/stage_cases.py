@@ -22,14 +22,14 @@ from pumdalin.inputs import encode_parameters
 from pumdalin.records import encode_all, two_bytes_each
 from stages import Nest, State, at_end, first_state, nest_of, next_state
 from stored import main
-from tree import has_choice_with_loop, height, loops_directly_in, tree
+from tree import choices_in, height, loops_directly_in, tree
 from trips import trips_of
 
 SEED = 2052
 STAGES = 5
 # of a case that has one; a stage takes none
 BUDGET = 1_000_000
-# a case's states have to fit in the program's space of 4,096 bytes
+# a case's states have to fit in the program's space, which is that of the longest text
 MOST_STAGES = 150
 # at least so many random sheets of each sort
 EACH_SORT = 150
@@ -72,7 +72,7 @@ def sorts_of(nest: Nest) -> set[str]:
     tests = (
         any(not fact.closed for fact in facts),
         any(fact.closed and fact.height > 0 for fact in facts),
-        has_choice_with_loop(body),
+        any(choice.holds_loop() for choice in choices_in(body)),
         any(height(loop) == 3 for loop in outermost),
         any(trips_of(node.loop, [], nest.parameters) == 0 for node in outermost),
     )

@@ -13,6 +13,7 @@ from agreement_cases import Expected, Trial, kept_trials, listing_cases, random_
 from agreement_checks import Difference, Tool, Unusable, check_listing, check_trials
 from asking import Ask, Outcome, program_at
 from calls import program_text
+from reasons import LINES, read_reason
 from stand_in import FolderCase, Made, flipped, replies_to, shell_program
 
 EXAMPLES = Path(__file__).parent.parent / "examples" / "listings"
@@ -44,6 +45,15 @@ def shown_by(check: Callable[..., object], *given: object) -> str:
     except Difference as found:
         return str(found)
     return ""
+
+
+def without_reasons(text: bytes) -> bytes:
+    return b"".join(line for line in text.splitlines(keepends=True) if read_reason(line) is None)
+
+
+def reasons_last(text: bytes) -> bytes:
+    lines = text.splitlines(keepends=True)
+    return without_reasons(text) + b"".join(line for line in lines if read_reason(line) is not None)
 
 
 def other_refusal(made: Made) -> None:
@@ -102,6 +112,17 @@ class RandomCases(unittest.TestCase):
         self.assertIn("when all is answered, writes more", self.compare(longer))
 
 
+class RandomReasons(unittest.TestCase):
+    def test_all_sorts(self) -> None:
+        """Random texts have many reasons of each sort."""
+        counts = dict.fromkeys(LINES, 0)
+        for trial in islice(random_trials(SEED), 10 * CASES):
+            for reason in map(read_reason, trial.text.text.splitlines(keepends=True)):
+                if reason is not None:
+                    counts[type(reason)] += 1
+        self.assertGreater(min(counts.values()), CASES)
+
+
 class ShownReplies(unittest.TestCase):
     def test_every_byte_shows(self) -> None:
         """A reply that is wrong in one byte, wherever it is, is shown in other words."""
@@ -130,6 +151,9 @@ class BoundText(unittest.TestCase):
             lambda data: program_text(data).replace(b"at 25\n", b"at 0\n"),
             lambda data: program_text(data or bytes(12)),
             lambda data: program_text(data).splitlines(keepends=True)[0],
+            lambda data: without_reasons(program_text(data)),
+            lambda data: reasons_last(program_text(data)),
+            lambda data: program_text(data).replace(b"uneven in loop 25\n", b"uneven in loop 0\n"),
         ]:
             self.assertIn("\nbound:    b'", self.compare(program))
 

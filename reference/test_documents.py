@@ -10,12 +10,13 @@ from typing import NamedTuple
 
 import known
 import picture
-from calls import answer, answer_text, c_call, program_text
+from calls import answer, c_call, program_text
 from nest import loop_reports
-from pumdalin.answers import Figures, LoopReport
+from pumdalin.answers import Figures
 from pumdalin.inputs import program_input
 from pumdalin.listing_reader import read_listing
-from pumdalin.records import MOST_RECORDS, Form, Loop, Record, Work, encode, encode_all, signed, unsigned
+from pumdalin.records import Form, Loop, Record, Work, encode, encode_all, signed, unsigned
+from text_limits import FIGURES_LINE_LENGTH, TEXT_LENGTH
 
 HERE = os.path.dirname(os.path.abspath(__file__))
 ROOT = os.path.dirname(HERE)
@@ -103,13 +104,15 @@ class Format(unittest.TestCase):
         self.assertEqual(without_kinds, expected_rows(known.TRIANGLE))
 
     def test_program(self) -> None:
-        head, printed = blocks_after(self.text, "The program")
+        head, printed, walked = blocks_after(self.text, "The program")
         parameters, budget = rows_of(head)
         values = [signed(parameters.data[i:i + 2]) for i in range(0, 8, 2)]
         self.assertEqual((parameters.offset, parameters.says), (0, numbers(*values)))
         self.assertEqual((budget.offset, budget.says), (8, numbers(unsigned(budget.data))))
         data = parameters.data + budget.data + encode_all(known.TRIANGLE)
         self.assertEqual(program_text(data).decode(), printed)
+        data = parameters.data + budget.data + encode_all(known.UNEVEN)
+        self.assertEqual(program_text(data).decode(), walked)
 
     def test_area(self) -> None:
         (block,) = blocks_after(self.text, "The C call")
@@ -184,11 +187,10 @@ class Header(unittest.TestCase):
         self.assertIn(f"\n## {version}\n", document("CHANGELOG.md"))
 
     def test_text_length(self) -> None:
-        """The longest figures line, and for each record the longest line of a loop."""
-        digits = len(str(2 ** 64 - 1))
-        figures = len(answer_text(Figures(0, 0, 0), [])) + 3 * (digits - 1)
-        loop = len(f"loop {LoopReport(0, True, 0).text()}\n") + 2 * (digits - 1)
-        self.assertIn(f"PUMDALIN_TEXT_LENGTH = {figures + MOST_RECORDS * loop},", self.text)
+        self.assertIn(f"PUMDALIN_TEXT_LENGTH = {TEXT_LENGTH},", self.text)
+        self.assertIn(f"at most {FIGURES_LINE_LENGTH} bytes", self.text)
+        for name in ("README.md", os.path.join("docs", "FORMAT.md")):
+            self.assertIn(f"{TEXT_LENGTH:,} bytes", document(name))
 
 
 class Picture(unittest.TestCase):

@@ -5,11 +5,13 @@ import unittest
 from pathlib import Path
 from random import Random
 
+from calls import program_text
 from generate import SIZES, cases, parameters, valid_records
 from known import MARKED, OTHERS
 from listings import reckoned_listing
+from pumdalin.answers import read_report
 from pumdalin.errors import ListingError
-from pumdalin.inputs import Parameters
+from pumdalin.inputs import Parameters, program_input
 from pumdalin.listing_reader import read_listing
 from pumdalin.records import encode_all
 from sheet import read_as_far
@@ -60,6 +62,15 @@ class Examples(unittest.TestCase):
             with self.subTest(case.tells):
                 listed.remove((case.records, case.parameters, case.budget, case.answer))
         self.assertEqual(listed, [])
+
+    def test_loops(self) -> None:
+        """What the listings expect of loops is what is reckoned, with the reason where one is walked."""
+        for path in sorted(EXAMPLES.rglob("*.listing")):
+            listing = read_listing(path.read_text(encoding="utf-8"))
+            for said in listing.loop_expectations:
+                with self.subTest(f"{path.name}:{said.line}"):
+                    text = program_text(program_input(listing.sheet(), said.parameters, said.budget)).decode()
+                    self.assertIn(said.answer, read_report(text).loops)
 
 
 if __name__ == "__main__":

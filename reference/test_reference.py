@@ -14,6 +14,7 @@ import unittest
 from random import Random
 
 import consistency
+import known_reasons
 import stages
 import trips
 from calls import Called, TextCalled, answer, c_call, program_text, reports, text_call
@@ -22,11 +23,14 @@ from example_readings import known_file, readings_file, telling_file
 from example_states import states_file
 from generate import SIZES, cases, parameters, valid_records
 from known import MARKED, OTHERS, TRIANGLE, UNIT, ZERO, Known, form, loop, span
-from nest import ceiling_refusal
+from known_reasons import KnownReasons
+from nest import ceiling_refusal, loop_reports
 from pumdalin.answers import Figures, Refusal
 from pumdalin.records import COST_LIMIT, END, LOOP, WORK, Choice, End, Form, NextArm, encode_all
-from readings import READINGS, TELLING, parse_file
+from readings import READINGS, TELLING, parse_file, parse_requests
+from reasons import OFFSET_LIMIT, HoldsLoop, TooFewTrips, UnevenIn, read_reason
 from sheet import BLANK, Part, RawRecord, SheetEnd, Written, raw, read, record_at, write
+from walked import walked_case
 
 GIVEN = os.environ.get("READINGS", READINGS)
 SHEETS = int(os.environ.get("SHEETS", "600"))
@@ -77,6 +81,11 @@ class SheetFiles(unittest.TestCase):
     def test_telling(self) -> None:
         self.check(TELLING)
 
+    def test_requests(self) -> None:
+        for printed in parse_requests():
+            with self.subTest(printed.tells or printed.data.hex()):
+                self.assertEqual(program_text(printed.data), printed.text)
+
     def check(self, path: str) -> None:
         for reading in parse_file(path):
             with self.subTest(reading.tells):
@@ -86,6 +95,93 @@ class SheetFiles(unittest.TestCase):
                     found = reports(reading.sheet, reading.parameters)
                     self.assertEqual(ways_of(reading.sheet, reading.parameters), reading.ways)
                     self.assertEqual([r.ceiling for r in found], reading.ceilings)
+
+
+class Reasons(unittest.TestCase):
+    """Why loops are walked, on sheets that were worked out by hand."""
+
+    def check(self, cases: list[KnownReasons]) -> None:
+        for case in cases:
+            with self.subTest(case.tells):
+                found = loop_reports(case.records, case.parameters)
+                self.assertEqual([report.reason for report in found], case.reasons)
+                consistency.check_facts(case.records, case.parameters)
+
+    def test_choices_come_first(self) -> None:
+        self.check(known_reasons.CHOICES)
+
+    def test_too_few_trips(self) -> None:
+        self.check(known_reasons.FEW_TRIPS)
+
+    def test_uneven_in_the_outermost(self) -> None:
+        self.check(known_reasons.UNEVEN)
+
+    def test_first_of_several(self) -> None:
+        self.check(known_reasons.SEVERAL)
+
+    def test_far_offsets(self) -> None:
+        self.check(known_reasons.FAR)
+
+    def test_one_line_after_the_loop(self) -> None:
+        """All tests fail in i, two in j; each has one line, and a closed loop has none."""
+        records = [
+            span(0, 3), span(0, 3), loop(form(1, j=1), form(0), stride=2), End(), End(),
+            Choice(), span(0, 3), End(), End(), End(),
+        ]
+        header = bytes(8) + (100).to_bytes(4, "little")
+        text = program_text(header + encode_all(records)).decode()
+        self.assertEqual(text.splitlines()[1:], [
+            "loop 0 walked ceiling 4", "choice 77 holds a loop",
+            "loop 25 walked ceiling 4", "loop 50 may fall below no trips",
+            "loop 50 closed ceiling 0", "loop 78 closed ceiling 4",
+        ])
+
+    def test_random(self) -> None:
+        random = Random("walked")
+        sorts = {HoldsLoop: 0, TooFewTrips: 0, UnevenIn: 0}
+        for _ in range(SHEETS):
+            case = walked_case(random)
+            records = read(case.sheet)
+            if isinstance(records, Refusal):
+                continue
+            consistency.check_facts(records, case.parameters)
+            for sort in {type(report.reason) for report in loop_reports(records, case.parameters)} - {type(None)}:
+                sorts[sort] += 1
+        self.assertGreater(min(sorts.values()), SHEETS // 12)
+
+
+class ReadingBack(unittest.TestCase):
+    OFFSETS = [0, 1, 9, 10, 25, 100, 805, 65535]
+
+    def test_reasons(self) -> None:
+        """Different reasons have different lines, and each reads back."""
+        reasons = [sort(c) for sort in (HoldsLoop, TooFewTrips) for c in self.OFFSETS]
+        reasons += [UnevenIn(k, m) for k in self.OFFSETS for m in self.OFFSETS]
+        self.assertEqual(len({reason.line() for reason in reasons}), len(reasons))
+        for reason in reasons:
+            self.assertEqual(read_reason(reason.line().encode()), reason)
+
+    def test_lines(self) -> None:
+        self.assertEqual(read_reason(b"choice 25 holds a loop\n"), HoldsLoop(25))
+        self.assertEqual(read_reason(b"loop 25 may fall below no trips\n"), TooFewTrips(25))
+        self.assertEqual(read_reason(b"loop 50 is uneven in loop 25\n"), UnevenIn(50, 25))
+
+    def test_no_reasons(self) -> None:
+        for line in [
+            b"", b"\n", b"choice 01 holds a loop\n", b"loop 00 may fall below no trips\n",
+            b"loop 50 is uneven in loop 025\n", b"choice 25 holds a loop", b"choice 25 holds a loop\n\n",
+            b"choice 25 holds a loop\r\n", b" choice 25 holds a loop\n", b"choice  holds a loop\n",
+            b"loop 25 holds a loop\n", b"choice 25 may fall below no trips\n", b"loop 0 walked ceiling 10\n",
+            b"best 45 worst 45 visits 3\n", b"choice \xd9\xa1 holds a loop\n",
+        ]:
+            self.assertIsNone(read_reason(line), line)
+
+    def test_large_offsets(self) -> None:
+        numbers = (OFFSET_LIMIT, OFFSET_LIMIT + 25, 99999, 2 ** 32, 2 ** 64 + 7)
+        for digits in [str(number).encode() for number in numbers] + [b"1" + b"0" * 5000]:
+            self.assertIsNone(read_reason(b"choice " + digits + b" holds a loop\n"))
+            self.assertIsNone(read_reason(b"loop " + digits + b" is uneven in loop 0\n"))
+            self.assertIsNone(read_reason(b"loop 50 is uneven in loop " + digits + b"\n"))
 
 
 class RecordReader(unittest.TestCase):

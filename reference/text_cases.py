@@ -16,17 +16,21 @@ from agreement_cases import kept_texts, random_trials
 from calls import text_called
 from pumdalin.records import two_bytes_each
 from stored import main
+from text_limits import TEXT_LENGTH
 
 SEED = 2053
-RANDOM_CASES = 400
+RANDOM_CASES = 500
 TEXTS = 6
 # The program has so much room for an input, for a buffer and for an area.
 MOST_INPUT = 4096
-MOST_BUFFER = 4096
+MOST_BUFFER = TEXT_LENGTH
 MOST_AREA = 32
 
 
 def text_case(call: TextCall) -> bytes:
+    """A ValueError where the program has no room for the case."""
+    if not has_room(call):
+        raise ValueError(f"no room for the case '{call.tells}'")
     number = text_called(call.text, call.buffer, call.area).number
     text = b"" if number else call.text
     head = bytes([TEXTS, number]) + two_bytes_each(len(call.data), len(text), 0, len(call.area), len(call.buffer))
@@ -39,7 +43,7 @@ def has_room(call: TextCall) -> bool:
 
 def all_cases() -> bytes:
     calls = kept_texts() + [trial.text for trial in islice(random_trials(SEED), RANDOM_CASES)]
-    return b"".join(text_case(call) for call in calls if has_room(call))
+    return b"".join(text_case(call) for call in calls)
 
 
 if __name__ == "__main__":

@@ -17,7 +17,12 @@ class LoopNode:
 
 @dataclass(frozen=True)
 class ChoiceNode:
+    position: int
     arms: tuple["Body", ...]
+
+    def holds_loop(self) -> bool:
+        """Whether it has a loop in an arm, directly or deeper."""
+        return any(loops_in(arm) for arm in self.arms)
 
 
 Body = tuple[Union[Work, LoopNode, ChoiceNode], ...]
@@ -54,12 +59,13 @@ def body_from(records: list[Record], position: int) -> tuple[Body, int]:
 def choice_from(records: list[Record], position: int) -> tuple[ChoiceNode, int]:
     """The choice at a position, and the position of its end."""
     assert isinstance(records[position], Choice)
+    start = position
     arms: list[Body] = []
     while True:
         arm, position = body_from(records, position + 1)
         arms.append(arm)
         if isinstance(records[position], End):
-            return ChoiceNode(tuple(arms)), position
+            return ChoiceNode(start, tuple(arms)), position
 
 
 def loops_directly_in(body: Body) -> list[LoopNode]:
@@ -83,14 +89,17 @@ def loops_in(body: Body) -> list[LoopNode]:
     return found
 
 
-def has_choice_with_loop(body: Body) -> bool:
-    """Whether some choice inside, at any depth, has a loop in an arm, directly or deeper."""
+def choices_in(body: Body) -> list[ChoiceNode]:
+    """All choices of a body, at any depth, in sheet order."""
+    found: list[ChoiceNode] = []
     for node in body:
-        if isinstance(node, LoopNode) and has_choice_with_loop(node.body):
-            return True
-        if isinstance(node, ChoiceNode) and any(loops_in(arm) for arm in node.arms):
-            return True
-    return False
+        if isinstance(node, LoopNode):
+            found += choices_in(node.body)
+        elif isinstance(node, ChoiceNode):
+            found.append(node)
+            for arm in node.arms:
+                found += choices_in(arm)
+    return found
 
 
 def height(loop: LoopNode) -> int:

@@ -1,7 +1,7 @@
 """What a call answers: figures or a refusal, and what is said of each loop."""
 
 import re
-from typing import NamedTuple, Union
+from typing import NamedTuple, Optional, Union
 
 
 class Figures(NamedTuple):
@@ -33,18 +33,46 @@ PLACED_REFUSALS = range(1, 7)
 FIXED_REFUSALS = (7, *READER_REFUSALS)
 
 
+# The sorts of reasons why a loop is walked, and their lines: the offsets are those of a choice C, of a loop K inside the
+# loop, of such a loop K and a loop M around it.
+HOLDS_LOOP = "holds-loop"
+TOO_FEW_TRIPS = "too-few-trips"
+UNEVEN = "uneven"
+
+REASON_PHRASES = {
+    HOLDS_LOOP: "choice {} holds a loop",
+    TOO_FEW_TRIPS: "loop {} may fall below no trips",
+    UNEVEN: "loop {} is uneven in loop {}",
+}
+
+
+class Reason(NamedTuple):
+    """Why a loop is walked: the sort, and the offsets that stand in its line."""
+
+    sort: str
+    offsets: tuple[int, ...]
+
+    def text(self) -> str:
+        return REASON_PHRASES[self.sort].format(*self.offsets)
+
+
 class LoopReport(NamedTuple):
-    """What a loop's line says of it."""
+    """What a loop's line says of it, and the line after it where the loop is walked."""
 
     offset: int
     closed: bool
     ceiling: int
+    reason: Optional[Reason] = None
 
     def verdict(self) -> str:
         return f"{'closed' if self.closed else 'walked'} ceiling {self.ceiling}"
 
     def text(self) -> str:
         return f"{self.offset} {self.verdict()}"
+
+    def whole_text(self) -> str:
+        """The text with the reason after a colon."""
+        return f"{self.text()}: {self.reason.text()}" if self.reason else self.text()
 
 
 class Report(NamedTuple):
@@ -54,15 +82,29 @@ class Report(NamedTuple):
     loops: list[LoopReport]
 
 
-FIGURES_LINE = re.compile(r"best (\d+) worst (\d+) visits (\d+)")
-REFUSAL_LINE = re.compile(r"refused (\d+) at (\d+)")
-LOOP_LINE = re.compile(r"loop (\d+) (closed|walked) ceiling (\d+)")
+# A decimal number of up to 64 bits, without leading zeros.
+NUMBER = "(0|[1-9][0-9]{0,19})"
+
+FIGURES_LINE = re.compile(f"best {NUMBER} worst {NUMBER} visits {NUMBER}")
+REFUSAL_LINE = re.compile(f"refused {NUMBER} at {NUMBER}")
+LOOP_LINE = re.compile(f"loop {NUMBER} (closed|walked) ceiling {NUMBER}")
+REASON_LINES = {sort: re.compile(phrase.replace("{}", NUMBER)) for sort, phrase in REASON_PHRASES.items()}
 
 
 def read_report(text: str) -> Report:
     """The report in a text of the text call; ValueError where it is none."""
     first, *others = text.splitlines() or [""]
-    return Report(read_answer(first), [read_loop_line(line) for line in others])
+    return Report(read_answer(first), read_loops(others))
+
+
+def read_loops(lines: list[str]) -> list[LoopReport]:
+    """The loops of these lines: each has its own, and a walked one its reason's after it."""
+    loops: list[LoopReport] = []
+    remaining = iter(lines)
+    for line in remaining:
+        loop = read_loop_line(line)
+        loops.append(loop if loop.closed else loop._replace(reason=read_reason_line(next(remaining, ""))))
+    return loops
 
 
 def read_answer(line: str) -> Answer:
@@ -78,3 +120,10 @@ def read_loop_line(line: str) -> LoopReport:
     if found is None:
         raise ValueError(f"no loop's line: {line!r}")
     return LoopReport(int(found[1]), found[2] == "closed", int(found[3]))
+
+
+def read_reason_line(line: str) -> Reason:
+    for sort, pattern in REASON_LINES.items():
+        if found := pattern.fullmatch(line):
+            return Reason(sort, tuple(map(int, found.groups())))
+    raise ValueError(f"no reason's line: {line!r}")

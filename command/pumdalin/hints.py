@@ -1,14 +1,30 @@
-"""Hints to a refusal of the reader of sheets: what in the record may be meant. They are the command's own."""
+"""Hints: what in a refused record may be meant, and how a walked loop may become closed. They are the command's own."""
 
 from typing import Optional
 
-from pumdalin.answers import READER_REFUSALS, Refusal
+from pumdalin.answers import HOLDS_LOOP, READER_REFUSALS, TOO_FEW_TRIPS, UNEVEN, Reason, Refusal
 from pumdalin.listing_reader import Entry, Listing
 from pumdalin.listing_text import record_text
 from pumdalin.records import (
     BODY_LENGTH, COST_LIMIT, END, KIND_OF, LOOP, MOST_LOOPS_DEEP, NEXT_ARM, OPENS, STRIDE_LEAST, STRIDE_MOST,
     Loop, Record, Work, decode, decode_before, open_after,
 )
+
+# What to change in the code, and in the listing with it, so that the test which failed holds: choice {0}; loop {0}; loop {0} in
+# loop {1}.
+REASON_HINTS = {
+    HOLDS_LOOP: "in code and listing alike, put {0} inside each innermost loop that it holds, where an arm without that "
+                "loop is empty; what an arm has beside its loops gets a choice of its own, before or after them",
+    TOO_FEW_TRIPS: "over the ranges of the indexes around it, {0} may start past its end by more than its stride; in code "
+                   "and listing alike, limit the loops around it, or change its bounds, so that upper - lower >= -stride",
+    UNEVEN: "each trip of {1} changes upper - lower of {0} by an amount that the inner stride does not divide; in code "
+            "and listing alike, choose the outer stride, or the factors in the inner bounds, so that it does",
+}
+
+
+def reason_hint(reason: Reason, names: list[str]) -> str:
+    """A hint for whoever writes the code; the names are those of what stands at the reason's offsets."""
+    return REASON_HINTS[reason.sort].format(*names)
 
 
 def listing_hint(listing: Listing, refusal: Refusal) -> Optional[str]:

@@ -44,6 +44,12 @@ class Line:
         self.taken += 0 if self.at_end() else 1
         return word
 
+    def take_rest(self) -> str:
+        """All further words, a space between them."""
+        rest = self.words[self.taken:-1]
+        self.taken = len(self.words) - 1
+        return " ".join(word.text for word in rest)
+
     def take_if(self, *texts: str) -> Optional[Word]:
         """The next word, if it is one of these."""
         return self.take() if self.next().text in texts else None

@@ -6,9 +6,9 @@ is not asked here: that is for the proved reader of sheets to say.
 """
 
 from dataclasses import dataclass, field
-from typing import Callable, NamedTuple, Optional
+from typing import Callable, Generic, NamedTuple, Optional, TypeVar, Union
 
-from pumdalin.answers import Answer, Figures, Refusal
+from pumdalin.answers import Answer, Figures, LoopReport, Refusal, read_loops
 from pumdalin.errors import ListingError
 from pumdalin.inputs import (
     BUDGET_RANGE, LARGEST_BUDGET, PARAMETER_RANGE, STORED_BUDGET_RANGE, Parameters, filled, without_value,
@@ -29,17 +29,24 @@ REFUSAL_NUMBERS = (1, 8)
 KINDS = {word: kind for kind, word in KIND_WORDS.items()}
 
 
-class Expectation(NamedTuple):
-    """The answer that a sheet is expected to get, and the line that says so."""
+Expected = TypeVar("Expected")
+
+
+@dataclass(frozen=True)
+class Expectation(Generic[Expected]):
+    """The answer that a sheet is expected to get, or what of it is about one loop; and the line that says so."""
 
     line: int
     values: tuple[int, ...]
     budget: int
-    answer: Answer
+    answer: Expected
 
     @property
     def parameters(self) -> Parameters:
         return filled(self.values)
+
+
+AnyExpectation = Union[Expectation[Answer], Expectation[LoopReport]]
 
 
 class Entry(NamedTuple):
@@ -63,7 +70,8 @@ class Listing:
     entries: list[Entry] = field(default_factory=list)
     values: tuple[int, ...] = ()
     budget: int = LARGEST_BUDGET
-    expectations: list[Expectation] = field(default_factory=list)
+    expectations: list[Expectation[Answer]] = field(default_factory=list)
+    loop_expectations: list[Expectation[LoopReport]] = field(default_factory=list)
     open_kinds: list[int] = field(default_factory=list)
     loops_open: int = 0
     last_line: int = 0
@@ -77,13 +85,22 @@ class Listing:
 
     def given(self) -> tuple[tuple[int, ...], int]:
         """Parameters and budget of the first expectation, or else those given last."""
-        if self.expectations:
-            return self.expectations[0].values, self.expectations[0].budget
+        expectations = self.all_expectations()
+        if expectations:
+            return expectations[0].values, expectations[0].budget
         return self.values, self.budget
+
+    def all_expectations(self) -> list[AnyExpectation]:
+        """Those of answers and those of loops, in the order of their lines."""
+        expectations: list[AnyExpectation] = [*self.expectations, *self.loop_expectations]
+        return sorted(expectations, key=lambda expectation: expectation.line)
 
     def entry_at(self, offset: int) -> Optional[Entry]:
         """The entry of the record at an offset of the sheet."""
         return dict(zip(offsets(self.records), self.entries)).get(offset)
+
+    def loop_offsets(self) -> list[int]:
+        return [place for place, record in zip(offsets(self.records), self.records) if isinstance(record, Loop)]
 
     def first_use(self, parameter: int) -> Optional[int]:
         """The first line that uses a parameter, numbered from 0."""
@@ -104,12 +121,22 @@ def read_listing(text: str) -> Listing:
     for number, line_text in enumerate(text.removesuffix("\n").split("\n"), start=1):
         read_line(Line(number, line_text), listing)
         listing.last_line = number
-    for expectation in listing.expectations:
+    for expectation in listing.all_expectations():
         check_values(listing, expectation)
+    for of_loop in listing.loop_expectations:
+        check_offset(listing, of_loop)
     return listing
 
 
-def check_values(listing: Listing, expectation: Expectation) -> None:
+def check_offset(listing: Listing, expectation: Expectation[LoopReport]) -> None:
+    """Whether a loop stands where one is expected."""
+    places = listing.loop_offsets()
+    if expectation.answer.offset not in places:
+        raise ListingError(expectation.line, 1, f"no loop stands at {expectation.answer.offset} of the sheet; write the offset "
+                           f"of a loop: {', '.join(map(str, places)) or 'there is none'}")
+
+
+def check_values(listing: Listing, expectation: AnyExpectation) -> None:
     """Whether an expectation has a value for each parameter that the sheet uses."""
     for parameter in without_value(used_parameters(listing.records), expectation.values):
         raise ListingError(expectation.line, 1, f"{PARAMETER_NAMES[parameter]}, which line {listing.first_use(parameter)} "
@@ -197,8 +224,23 @@ def read_budget(line: Line, listing: Listing) -> None:
 
 
 def read_expectation(line: Line, listing: Listing) -> None:
-    answer = read_answer(line)
-    listing.expectations.append(Expectation(line.number, listing.values, listing.budget, answer))
+    if line.next().text == KIND_WORDS[LOOP]:
+        loop = read_loop_report(line)
+        listing.loop_expectations.append(Expectation(line.number, listing.values, listing.budget, loop))
+    else:
+        answer = read_answer(line)
+        listing.expectations.append(Expectation(line.number, listing.values, listing.budget, answer))
+
+
+def read_loop_report(line: Line) -> LoopReport:
+    """A loop's line as `bound` prints it and, after a colon, that of the reason why it is walked."""
+    first = line.next()
+    try:
+        (loop,) = read_loops([part.strip() for part in line.take_rest().split(":")])
+    except ValueError:
+        line.fail("write a loop as bound prints it and, if it is walked, a colon and the reason: "
+                  "loop 25 closed ceiling 9, or loop 0 walked ceiling 10: loop 25 is uneven in loop 0", first)
+    return loop
 
 
 def read_answer(line: Line) -> Answer:

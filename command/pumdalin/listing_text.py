@@ -97,6 +97,6 @@ def listing_lines(sheet: bytes, refusal: Optional[Refusal], loops: list[LoopRepo
     """
     records = decode_before(sheet, refusal.place if refusal else len(sheet))
     remarks = {offset: str(offset) for offset in offsets(records)[:-1]}
-    remarks.update((loop.offset, loop.text()) for loop in loops)
+    remarks.update((loop.offset, loop.whole_text()) for loop in loops)
     lines = values_lines(values, budget) + with_remarks(record_lines(records), list(remarks.values()))
     return lines + ([summary(refusal, sheet)] if refusal else [])

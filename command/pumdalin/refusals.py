@@ -40,7 +40,8 @@ REFUSALS = {
     7: Words("the budget is out of its range", CALLER, "give another budget",
              f"a budget is 1 to {LARGEST_BUDGET:,} visits"),
     8: Words("the sheet takes more visits than the budget", CALLER,
-             "give a larger budget, or a sheet with fewer walked loops",
+             "give a larger budget, or a sheet with fewer walked loops (an answer with figures, such as one at smaller "
+             "parameter values, says why each is walked)",
              f"a budget is 1 to {LARGEST_BUDGET:,} visits"),
 }
 

@@ -2,16 +2,16 @@
 
 from typing import Optional, Union
 
-from pumdalin.answers import FIXED_REFUSALS, PLACED_REFUSALS, LoopReport, Refusal, Report
+from pumdalin.answers import FIXED_REFUSALS, PLACED_REFUSALS, LoopReport, Reason, Refusal, Report
 from pumdalin.characters import decoded
 from pumdalin.errors import CommandError, ListingError
 from pumdalin.files import read_file, shown_name, tell
-from pumdalin.hints import bytes_hint, listing_hint
+from pumdalin.hints import bytes_hint, listing_hint, reason_hint
 from pumdalin.inputs import LARGEST_BUDGET, filled, without_value
 from pumdalin.library import Library
-from pumdalin.listing_reader import Expectation, Listing, read_listing
-from pumdalin.listing_text import PARAMETER_NAMES, index_name
-from pumdalin.records import decode_before, used_parameters
+from pumdalin.listing_reader import AnyExpectation, Entry, Listing, read_listing
+from pumdalin.listing_text import KIND_WORDS, PARAMETER_NAMES, index_name
+from pumdalin.records import KIND_OF, Loop, decode_before, used_parameters
 from pumdalin.refusals import explanation, summary
 
 
@@ -26,8 +26,8 @@ class ListingSubject:
     def given(self) -> tuple[tuple[int, ...], int]:
         return self.listing.given()
 
-    def expectations(self) -> list[Expectation]:
-        return self.listing.expectations
+    def expectations(self) -> list[AnyExpectation]:
+        return self.listing.all_expectations()
 
     def used(self) -> list[int]:
         return used_parameters(self.listing.records)
@@ -37,14 +37,30 @@ class ListingSubject:
         entry = self.listing.entry_at(offset)
         return entry.line if entry else self.listing.last_line + 1
 
-    def loop_at(self, offset: int) -> dict[str, object]:
-        """The line and the index of the loop at an offset."""
+    def entry_at(self, offset: int) -> Entry:
         entry = self.listing.entry_at(offset)
         assert entry is not None
+        return entry
+
+    def loop_at(self, offset: int) -> dict[str, object]:
+        """The line and the index of the loop at an offset."""
+        entry = self.entry_at(offset)
         return {"line": entry.line, "index": index_name(entry.loops_around)}
 
     def loop_line(self, loop: LoopReport) -> str:
         return "line {line}: loop {index} ".format(**self.loop_at(loop.offset)) + loop.verdict()
+
+    def name_at(self, offset: int) -> str:
+        """The loop or the choice at an offset, as the listing has it."""
+        entry = self.entry_at(offset)
+        index = f" {index_name(entry.loops_around)}" if isinstance(entry.record, Loop) else ""
+        return f"the {KIND_WORDS[KIND_OF[type(entry.record)]]}{index} of line {entry.line}"
+
+    def reason_line(self, reason: Reason) -> str:
+        return f"{reason.text()}: {', '.join(self.name_at(offset) for offset in reason.offsets)}"
+
+    def lines_of(self, reason: Reason) -> dict[str, object]:
+        return {"lines": [self.line_at(offset) for offset in reason.offsets]}
 
     def refusal_line(self, refusal: Refusal) -> Optional[int]:
         return self.line_at(refusal.place) if refusal.number in PLACED_REFUSALS else None
@@ -67,7 +83,7 @@ class SheetSubject:
     def given(self) -> tuple[tuple[int, ...], int]:
         return (), LARGEST_BUDGET
 
-    def expectations(self) -> list[Expectation]:
+    def expectations(self) -> list[AnyExpectation]:
         return []
 
     def used(self) -> list[int]:
@@ -78,6 +94,15 @@ class SheetSubject:
 
     def loop_line(self, loop: LoopReport) -> str:
         return f"loop {loop.text()}"
+
+    def name_at(self, offset: int) -> str:
+        return f"{KIND_WORDS[self.sheet[offset]]} {offset}"
+
+    def reason_line(self, reason: Reason) -> str:
+        return reason.text()
+
+    def lines_of(self, reason: Reason) -> dict[str, object]:
+        return {}
 
     def refusal_line(self, refusal: Refusal) -> Optional[int]:
         return None
@@ -115,6 +140,18 @@ def refusal_lines(subject: Subject, refusal: Refusal) -> list[str]:
     hint = subject.hint(refusal)
     said = [summary(refusal, subject.sheet), *explanation(refusal, subject.sheet), *([f"hint: {hint}"] if hint else [])]
     return [f"{place}: {words}" for words in said]
+
+
+def loop_lines(subject: Subject, loop: LoopReport) -> list[str]:
+    """What is said of a loop; after a walked one, why it is walked and what to change."""
+    if loop.reason is None:
+        return [subject.loop_line(loop)]
+    hint = hint_to(subject, loop.reason)
+    return [subject.loop_line(loop), f"  {subject.reason_line(loop.reason)}", f"  hint: {hint}"]
+
+
+def hint_to(subject: Subject, reason: Reason) -> str:
+    return reason_hint(reason, [subject.name_at(offset) for offset in reason.offsets])
 
 
 def tell_refusal(subject: Subject, refusal: Refusal) -> None:

@@ -20,12 +20,91 @@ ROOT = Path(__file__).resolve().parent.parent.parent
 COMMAND = os.environ.get("PUMDALIN", str(ROOT / "dist" / "bin" / "pumdalin"))
 LISTINGS = ROOT / "examples" / "listings"
 DISPENSE = LISTINGS / "firmware" / "dispense.listing"
+WALKED = LISTINGS / "walked"
 MANUAL = ROOT / "command" / "pumdalin.1"
+README = ROOT / "README.md"
 
 ANSWER = "best 1054 worst 1977 visits 4\n"
 AS_EXPECTED = "line 25: as expected at parameters 16 0 0 0 budget 100: " + ANSWER
 FULL = Path("/dev/full")
 TRIANGLE_OVER_P1 = "loop i 1..p1\n  loop j i..p1\n    work 1\n  end\nend\n"
+
+# A choice that holds a nest, the same put inside the innermost loop, and inside the outer one alone.
+CHOICE_OF_NEST = """\
+loop i 0..9
+  choice
+    loop j 0..3
+      loop k 0..2
+        work 4
+      end
+    end
+  or
+    work 7
+  end
+end
+"""
+NEST_WITH_CHOICES = """\
+loop i 0..9
+  loop j 0..3
+    loop k 0..2
+      choice
+        work 4
+      or
+      end
+    end
+  end
+  choice
+  or
+    work 7
+  end
+end
+"""
+NEST_WITH_CHOICE_HALFWAY = """\
+loop i 0..9
+  loop j 0..3
+    choice
+      loop k 0..2
+        work 4
+      end
+    or
+    end
+  end
+  choice
+  or
+    work 7
+  end
+end
+"""
+# A choice of two loops with other bounds, and the same put inside each of them.
+CHOICE_OF_TWO = """\
+loop i 0..9
+  choice
+    loop j 0..i start 2 step 3
+      work 9
+    end
+  or
+    loop j i..15 start 2 step 3
+      work 4
+    end
+  end
+end
+"""
+TWO_WITH_CHOICES = """\
+loop i 0..9
+  loop j 0..i start 2 step 3
+    choice
+      work 9
+    or
+    end
+  end
+  loop j i..15 start 2 step 3
+    choice
+    or
+      work 4
+    end
+  end
+end
+"""
 
 Ended = subprocess.CompletedProcess
 
@@ -133,6 +212,124 @@ class Answers(CommandTest):
         self.assertEqual(ended.stderr.decode(), f"{DISPENSE}: note: p2 has a value, and no bound uses it\n")
 
 
+class Reasons(CommandTest):
+    """Why loops are walked, over the listings that have each sort."""
+
+    def shown(self, *words: object) -> list[str]:
+        """The lines of the loops, without hints."""
+        ended = run(*words)
+        self.assertEqual((ended.returncode, ended.stderr), (0, b""))
+        lines = ended.stdout.decode().splitlines()[2:]
+        return [line for line in lines if not re.match("  hint: |line .* as expected ", line)]
+
+    def test_listings(self) -> None:
+        for name, said in {
+            "rinse": ["line 15: loop i walked ceiling 16", "  choice 30 holds a loop: the choice of line 17",
+                      "line 18: loop j closed ceiling 8", "line 22: loop j closed ceiling 8"],
+            "ramp": ["line 13: loop i walked ceiling 12", "  loop 30 may fall below no trips: the loop j of line 15",
+                     "line 15: loop j closed ceiling 8"],
+            "meter": ["line 12: loop i walked ceiling 10",
+                      "  loop 30 is uneven in loop 0: the loop j of line 14, the loop i of line 12",
+                      "line 14: loop j closed ceiling 5"],
+        }.items():
+            self.assertEqual(self.shown(WALKED / f"{name}.listing"), said)
+            hints = [line for line in run(WALKED / f"{name}.listing").stdout.decode().splitlines() if "  hint: " in line]
+            self.assertEqual(len(hints), 1)
+            changed = self.shown(WALKED / f"{name}-closed.listing")
+            self.assertTrue(all(re.fullmatch("line .* closed ceiling .*", line) for line in changed), changed)
+
+    def test_choice_put_inside(self) -> None:
+        """Only inside each innermost loop it lets the loops around be closed; halfway the visits rise."""
+        for before, after, visits in [
+            (CHOICE_OF_NEST, NEST_WITH_CHOICES, (50, 15)),
+            (CHOICE_OF_TWO, TWO_WITH_CHOICES, (30, 6)),
+        ]:
+            walked, closed = self.file("before.listing", before), self.file("after.listing", after)
+            self.assertEqual(self.shown(walked)[:2],
+                             ["line 1: loop i walked ceiling 10", "  choice 25 holds a loop: the choice of line 2"])
+            self.assertNotIn(" walked ", "\n".join(self.shown(closed)))
+            answers = [json.loads(run(path, "--json").stdout)["answer"] for path in (walked, closed)]
+            self.assertEqual(tuple(said["visits"] for said in answers), visits)
+        halfway = self.file("halfway.listing", NEST_WITH_CHOICE_HALFWAY)
+        self.assertEqual(self.shown(halfway)[:4:2], ["line 1: loop i walked ceiling 10", "line 2: loop j walked ceiling 4"])
+        self.assertEqual(json.loads(run(halfway, "--json").stdout)["answer"]["visits"], 90)
+
+    def test_uneven_mended(self) -> None:
+        """By the outer stride, or by a factor of the inner bounds; the inner stride 1 may make the trips too few."""
+        for outer, inner, reason in [
+            ("i 0..9", "j 0..i-2 by 2", "loop 25 is uneven in loop 0"),
+            ("i 0..9 by 2", "j 0..i-2 by 2", None),
+            ("i 0..9", "j 0..2i-2 by 2", None),
+            ("i 0..9", "j 0..i-2", "loop 25 may fall below no trips"),
+        ]:
+            listing = self.file("uneven.listing", f"loop {outer}\nloop {inner}\nend\nend\n")
+            said = json.loads(run(listing, "--json").stdout)["loops"][0]["reason"]
+            self.assertEqual(said and said["printed"], reason)
+
+    def test_nested(self) -> None:
+        """Each walked loop has its own reason, also where parameters make it walked."""
+        nest = self.file("nest.listing", "loop i 0..p1\nloop j 0..p1\nloop k 0..i+j by 2\nend\nend\nend\n")
+        self.assertEqual(self.shown(nest, "--parameters", "9"), [
+            "line 1: loop i walked ceiling 10", "  loop 50 is uneven in loop 0: the loop k of line 3, the loop i of line 1",
+            "line 2: loop j walked ceiling 10", "  loop 50 is uneven in loop 25: the loop k of line 3, the loop j of line 2",
+            "line 3: loop k closed ceiling 10"])
+        ramp = WALKED / "ramp.listing"
+        self.assertEqual(self.shown(ramp, "--parameters", "9", "8"),
+                         ["line 13: loop i closed ceiling 9", "line 15: loop j closed ceiling 8"])
+
+    def test_bytes(self) -> None:
+        sheet = self.sheet((WALKED / "meter.listing").read_text())
+        self.assertEqual(self.shown("--bytes", sheet, "--parameters", "10"),
+                         ["loop 0 walked ceiling 10", "  loop 30 is uneven in loop 0", "loop 30 closed ceiling 5"])
+
+    def test_printed(self) -> None:
+        sheet = self.sheet((WALKED / "rinse.listing").read_text())
+        first, *_ = run("print", sheet, "--parameters", "16", "8").stdout.decode().splitlines()[1:]
+        self.assertEqual(first, "loop i 0..p1-1 start 2 step 3      # 0 walked ceiling 16: choice 30 holds a loop")
+
+    def test_json(self) -> None:
+        for name, said in {
+            "rinse": ("holds-loop", [30], [17], "choice 30 holds a loop"),
+            "ramp": ("too-few-trips", [30], [15], "loop 30 may fall below no trips"),
+            "meter": ("uneven", [30, 0], [14, 12], "loop 30 is uneven in loop 0"),
+        }.items():
+            path = WALKED / f"{name}.listing"
+            outer, *inner = json.loads(run(path, "--json").stdout)["loops"]
+            hint = outer["reason"].pop("hint")
+            self.assertEqual(outer["reason"], dict(zip(("sort", "offsets", "lines", "printed"), said)))
+            self.assertIn(f"  hint: {hint}\n", run(path).stdout.decode())
+            self.assertTrue(all(loop["reason"] is None for loop in inner))
+
+    def test_expectation_that_does_not_hold(self) -> None:
+        text = "loop i 1..p1\n  loop j i..p1 by 2\n  end\nend\nparameters 4\n"
+        listing = self.file("wrong.listing", text + "expect loop 0 closed ceiling 4\nexpect loop 25 closed ceiling 2\n"
+                            "budget 1\nexpect loop 25 closed ceiling 2\n")
+        ended = run(listing)
+        self.assertEqual(ended.returncode, 1)
+        asked = "at parameters 4 0 0 0 budget"
+        self.assertIn(f"line 7: as expected {asked} 1000000: loop 25 closed ceiling 2\n", ended.stdout.decode())
+        self.assertEqual(ended.stderr.decode().splitlines(), [
+            f"{listing}:6: {asked} 1000000 expected loop 0 closed ceiling 4, answered loop 0 walked ceiling 4: "
+            "loop 25 is uneven in loop 0",
+            f"{listing}:9: {asked} 1 expected loop 25 closed ceiling 2, answered refused 8 at 0"])
+        said = json.loads(run(listing, "--json").stdout)["expectations"]
+        self.assertEqual([check["holds"] for check in said], [False, True, False])
+        self.assertEqual(said[0]["answered"], {"offset": 0, "closed": False, "ceiling": 4, "reason": "loop 25 is uneven in loop 0"})
+
+    def test_readme(self) -> None:
+        """What the README shows of each sort is what the command prints, up to the expectations."""
+        section = re.split("^## ", README.read_text().split("\n## Why is a loop walked?\n")[1], flags=re.MULTILINE)[0]
+        shown = re.findall(r"^    \$ dist/bin/pumdalin (\S+)$.*?^```\n(.*?)^```$", section, re.MULTILINE | re.DOTALL)
+        self.assertEqual(len(shown), 3)
+        for path, output in shown:
+            printed = run(ROOT / path).stdout.decode()
+            self.assertTrue(printed.startswith(output), printed)
+            self.assertTrue(printed.removeprefix(output).startswith("line "), printed)
+
+    def test_manual(self) -> None:
+        self.assertIn("\n".join([".nf", *self.shown(WALKED / "ramp.listing")[:2], ".fi"]), MANUAL.read_text())
+
+
 class AsJson(CommandTest):
     def test_answered(self) -> None:
         ended = run(DISPENSE, "--json")
@@ -140,8 +337,8 @@ class AsJson(CommandTest):
         figures = {"least": 1054, "most": 1977, "visits": 4}
         self.assertEqual(json.loads(ended.stdout), {
             "file": str(DISPENSE), "parameters": [16, 0, 0, 0], "budget": 100, "answer": figures, "refusal": None,
-            "loops": [{"line": 14, "index": "i", "offset": 5, "closed": True, "ceiling": 16},
-                      {"line": 16, "index": "j", "offset": 35, "closed": True, "ceiling": 16}],
+            "loops": [{"line": 14, "index": "i", "offset": 5, "closed": True, "ceiling": 16, "reason": None},
+                      {"line": 16, "index": "j", "offset": 35, "closed": True, "ceiling": 16, "reason": None}],
             "expectations": [{"line": 25, "parameters": [16, 0, 0, 0], "budget": 100, "expected": figures,
                               "answered": figures, "holds": True}]})
 
@@ -157,7 +354,7 @@ class AsJson(CommandTest):
 
     def test_bytes(self) -> None:
         said = json.loads(run("--bytes", "--json", self.sheet("loop i 0..9\nwork 1\nend")).stdout)
-        self.assertEqual(said["loops"], [{"offset": 0, "closed": True, "ceiling": 10}])
+        self.assertEqual(said["loops"], [{"offset": 0, "closed": True, "ceiling": 10, "reason": None}])
 
     def test_figures_that_doubles_do_not_hold(self) -> None:
         loops = "".join(f"loop {name} 0..2047\n" for name in "ijkl")

@@ -7,7 +7,7 @@ from pumdalin.answers import Figures, LoopReport, Refusal
 from pumdalin.characters import decoded
 from pumdalin.errors import ListingError
 from pumdalin.hints import listing_hint
-from pumdalin.listing_reader import Listing, read_listing
+from pumdalin.listing_reader import Expectation, Listing, read_listing
 from pumdalin.listing_text import form_text, listing_lines
 from pumdalin.records import (
     Choice, End, Form, Loop, NextArm, Work, decode_before, encode_all, used_parameters,
@@ -100,8 +100,8 @@ class Making(unittest.TestCase):
     def test_values_hold_for_later_lines(self) -> None:
         listing = read_listing("parameters 5 -6\nexpect 1 2 visits 3\nbudget 0\n"
                                "expect refused 7 at 0\nparameters 1 2 3 4\n")
-        self.assertEqual([said[1:] for said in listing.expectations],
-                         [((5, -6), 1_000_000, Figures(1, 2, 3)), ((5, -6), 0, Refusal(7, 0))])
+        self.assertEqual(listing.expectations, [Expectation(2, (5, -6), 1_000_000, Figures(1, 2, 3)),
+                                                Expectation(4, (5, -6), 0, Refusal(7, 0))])
         self.assertEqual(listing.given(), ((5, -6), 1_000_000))
         self.assertEqual(read_listing("budget 7\nparameters -1").given(), ((-1,), 7))
 

@@ -2,34 +2,37 @@
 
 import argparse
 import json
-from typing import NamedTuple
+from typing import NamedTuple, Optional, Union
 
 from pumdalin import VERSION
-from pumdalin.answers import Answer, Figures, LoopReport, Refusal
+from pumdalin.answers import Answer, Figures, LoopReport, Reason, Refusal, Report
 from pumdalin.arguments import add_budget, add_file, add_parameters, parser_for
 from pumdalin.errors import ANSWERED, REFUSED, CommandError
 from pumdalin.files import tell, write_text
 from pumdalin.inputs import Parameters, filled
 from pumdalin.library import Library
-from pumdalin.listing_reader import Expectation
+from pumdalin.listing_reader import AnyExpectation
 from pumdalin.listing_text import PARAMETER_NAMES
 from pumdalin.refusals import words_for
-from pumdalin.subjects import Subject, ask, read_subject, tell_refusal
+from pumdalin.subjects import Subject, ask, hint_to, loop_lines, read_subject, tell_refusal
 
 DESCRIPTION = """\
 Least and most cycles that the code of a sheet can take, the visits that the answer
-took, and what is said of each loop, all from the proved calls. Every `expect` of the
-listing is checked."""
+took, and what is said of each loop, with the reason where it is walked, all from the
+proved calls. Every `expect` of the listing is checked."""
 
 # Readers of JSON that keep numbers as doubles round those above.
 LARGEST_EXACT_DOUBLE = 2 ** 53 - 1
 
 
+Said = Union[Answer, LoopReport]
+
+
 class Check(NamedTuple):
     """What a listing expects, and what is answered."""
 
-    expected: Expectation
-    answered: Answer
+    expected: AnyExpectation
+    answered: Said
 
     def holds(self) -> bool:
         return self.expected.answer == self.answered
@@ -82,9 +85,24 @@ def outcome_of(given: argparse.Namespace, subject: Subject, library: Library) ->
     values = values if given.parameters is None else given.parameters
     budget = budget if given.budget is None else given.budget
     report = ask(library, subject, values, budget)
-    checks = [Check(said, library.report(subject.sheet, said.parameters, said.budget).answer)
-              for said in subject.expectations()]
+    checks = [checked(expected, subject.sheet, library) for expected in subject.expectations()]
     return Outcome(subject, filled(values), budget, report.answer, report.loops, checks)
+
+
+def checked(expected: AnyExpectation, sheet: bytes, library: Library) -> Check:
+    report = library.report(sheet, expected.parameters, expected.budget)
+    return Check(expected, said_of(expected.answer, report))
+
+
+def said_of(expected: Said, report: Report) -> Said:
+    """What a report says of what is expected: the loop at the same offset, or the answer, which may be a refusal."""
+    if isinstance(expected, LoopReport) and isinstance(report.answer, Figures):
+        return next(loop for loop in report.loops if loop.offset == expected.offset)
+    return report.answer
+
+
+def said_text(said: Said) -> str:
+    return f"loop {said.whole_text()}" if isinstance(said, LoopReport) else said.text()
 
 
 def asked_text(parameters: Parameters, budget: int) -> str:
@@ -103,8 +121,8 @@ def write_words(outcome: Outcome) -> None:
     lines: list[str] = []
     if isinstance(outcome.answer, Figures):
         lines += [outcome.answer.text(), asked_text(outcome.parameters, outcome.budget)]
-        lines += [outcome.subject.loop_line(loop) for loop in outcome.loops]
-    lines += [f"line {check.expected.line}: as expected at {check.asked()}: {check.answered.text()}"
+        lines += [line for loop in outcome.loops for line in loop_lines(outcome.subject, loop)]
+    lines += [f"line {check.expected.line}: as expected at {check.asked()}: {said_text(check.answered)}"
               for check in outcome.checks if check.holds()]
     write_text(lines)
     if isinstance(outcome.answer, Refusal):
@@ -112,7 +130,7 @@ def write_words(outcome: Outcome) -> None:
     for check in outcome.checks:
         if not check.holds():
             tell(f"{outcome.subject.name}:{check.expected.line}: at {check.asked()} expected "
-                 f"{check.expected.answer.text()}, answered {check.answered.text()}")
+                 f"{said_text(check.expected.answer)}, answered {said_text(check.answered)}")
 
 
 def write_json(outcome: Outcome) -> None:
@@ -137,9 +155,22 @@ def refusal_object(subject: Subject, refusal: Refusal) -> dict[str, object]:
 
 
 def loop_object(subject: Subject, loop: LoopReport) -> dict[str, object]:
-    return {**subject.loop_at(loop.offset), **loop._asdict()}
+    return {**subject.loop_at(loop.offset), **loop._asdict(), "reason": reason_object(subject, loop.reason)}
+
+
+def reason_object(subject: Subject, reason: Optional[Reason]) -> Optional[dict[str, object]]:
+    """The reason; `printed` is its line as `bound` prints it."""
+    if reason is None:
+        return None
+    return {**reason._asdict(), **subject.lines_of(reason), "printed": reason.text(), "hint": hint_to(subject, reason)}
 
 
 def check_object(check: Check) -> dict[str, object]:
     return {"line": check.expected.line, "parameters": check.expected.parameters, "budget": check.expected.budget,
-            "expected": check.expected.answer._asdict(), "answered": check.answered._asdict(), "holds": check.holds()}
+            "expected": said_object(check.expected.answer), "answered": said_object(check.answered), "holds": check.holds()}
+
+
+def said_object(said: Said) -> dict[str, object]:
+    """What is expected or answered; of a loop's reason, which may be expected wrongly, the line alone."""
+    reason = {"reason": said.reason and said.reason.text()} if isinstance(said, LoopReport) else {}
+    return {**said._asdict(), **reason}

@@ -1,4 +1,4 @@
-// The program `bound`: reads four parameters, a budget and a sheet, and prints the figures and a line a loop, or the refusal.
+// The program `bound`: reads four parameters, a budget and a sheet, and prints the figures and the lines of each loop, or the refusal.
 use libc::STDIN_FILENO;
 use libc::STDOUT_FILENO;
 use text::TEXT_LENGTH;

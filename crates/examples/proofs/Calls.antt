@@ -1,7 +1,8 @@
--- The writer, the C calls, the record reader and the program's text, by cases.
+-- The writer, the C calls, the record reader, the program's text and reasons read back, by cases.
 -- Last three numbers that only theorems name.
 use mathlib.Core.Path.{_≡_, refl}
 use mathlib.Core.List.{[], _∷_}
+use mathlib.Core.Option.{none, some}
 use lib.IntN.{pos, negsuc}
 use Rattle.meaning.specs.Limits.{figureLimit, visitsPerLoop, inputLimit}
 use Rattle.meaning.specs.Form.{Form}
@@ -9,6 +10,8 @@ use Rattle.meaning.specs.Reader.{refused, headAt, bodyAt}
 use Rattle.meaning.specs.Writer.{RawRecord, write}
 use Rattle.meaning.specs.CCall.{cCall}
 use Rattle.meaning.specs.Text.{text}
+use Rattle.meaning.specs.Reason.{holdsLoop, tooFewTrips, unevenIn}
+use Rattle.meaning.specs.ReasonLine.{readReason}
 use Rattle.meaning.specs.Program.{programText}
 use Rattle.meaning.specs.TextCall.{textCall}
 use Rattle.meaning.proofs.Vocabulary.{hex, zeroParameters, form, raw, written, notWritten, called, textCalled, found, sheetEnd}
@@ -343,7 +346,7 @@ pub program-text-1 :
     -- the printed example
     (programText (hex "0000000000000000640000000200000000010000000000000000000009000000000000000002000000000100000000000000000000ffff0100000000000001010001000303") ≡ (text "best 45 worst 45 visits 3\nloop 0 closed ceiling 10\nloop 25 closed ceiling 9\n"))
     -- walked
-    × (programText (hex "000000000000000064000000020000000001000000000000000000000900000000000000000200000000020000000000000000000000000100000000000001010001000303") ≡ (text "best 30 worst 30 visits 20\nloop 0 walked ceiling 10\nloop 25 closed ceiling 5\n"))
+    × (programText (hex "000000000000000064000000020000000001000000000000000000000900000000000000000200000000020000000000000000000000000100000000000001010001000303") ≡ (text "best 30 worst 30 visits 20\nloop 0 walked ceiling 10\nloop 25 is uneven in loop 0\nloop 25 closed ceiling 5\n"))
     -- empty sheet
     × (programText (hex "000000000000000064000000") ≡ (text "best 0 worst 0 visits 0\n"))
     -- no input
@@ -410,8 +413,72 @@ pub text-call-1 :
     × (textCall [] [] (hex "65666768696a6b6c") ≡ textCalled 12 [] (hex "65666768696a6b6c"))
     -- nothing at all: 9
     × (textCall [] [] [] ≡ textCalled 9 [] [])
+    -- a reason's line
+    × (textCall (hex "000000000000000064000000020000000001000000000000000000000900000000000000000200000000020000000000000000000000000100000000000001010001000303") (hex "bbbbbbbbbbbbbbbbbbbbbbbbbbbbbbbbbbbbbbbbbbbbbbbbbbbbbbbbbbbbbbbbbbbbbbbbbbbbbbbbbbbbbbbbbbbbbbbbbbbbbbbbbbbbbbbbbbbbbbbbbbbbbbbbbbbbbbbbbbbbbbbbbbbbbbbbbbbbbbbbbbbbbbbbbbbbbbbbbbbbbbbbbbbbbbbbbbbbbbbbbbbbbbbbbb") (hex "65666768696a6b6c") ≡ textCalled 0 (hex "6265737420333020776f727374203330207669736974732032300a6c6f6f7020302077616c6b6564206365696c696e672031300a6c6f6f7020323520697320756e6576656e20696e206c6f6f7020300a6c6f6f7020323520636c6f736564206365696c696e6720350a") (hex "6900000000000000"))
 unfolding computes
-text-call-1 = (refl, refl, refl, refl, refl, refl, refl, refl, refl, refl, refl, refl, refl, refl, refl, refl, refl, refl, refl)
+text-call-1 = (refl, refl, refl, refl, refl, refl, refl, refl, refl, refl, refl, refl, refl, refl, refl, refl, refl, refl, refl, refl)
+
+pub text-call-2 :
+    -- a reason's line, buffer one byte short
+    (textCall (hex "000000000000000064000000020000000001000000000000000000000900000000000000000200000000020000000000000000000000000100000000000001010001000303") (hex "bbbbbbbbbbbbbbbbbbbbbbbbbbbbbbbbbbbbbbbbbbbbbbbbbbbbbbbbbbbbbbbbbbbbbbbbbbbbbbbbbbbbbbbbbbbbbbbbbbbbbbbbbbbbbbbbbbbbbbbbbbbbbbbbbbbbbbbbbbbbbbbbbbbbbbbbbbbbbbbbbbbbbbbbbbbbbbbbbbbbbbbbbbbbbbbbbbbbbbbbbbbbbbbb") (hex "65666768696a6b6c") ≡ textCalled 12 (hex "bbbbbbbbbbbbbbbbbbbbbbbbbbbbbbbbbbbbbbbbbbbbbbbbbbbbbbbbbbbbbbbbbbbbbbbbbbbbbbbbbbbbbbbbbbbbbbbbbbbbbbbbbbbbbbbbbbbbbbbbbbbbbbbbbbbbbbbbbbbbbbbbbbbbbbbbbbbbbbbbbbbbbbbbbbbbbbbbbbbbbbbbbbbbbbbbbbbbbbbbbbbbbbbb") (hex "65666768696a6b6c"))
+    -- a reason's line, buffer one byte longer: it stays
+    × (textCall (hex "000000000000000064000000020000000001000000000000000000000900000000000000000200000000020000000000000000000000000100000000000001010001000303") (hex "bbbbbbbbbbbbbbbbbbbbbbbbbbbbbbbbbbbbbbbbbbbbbbbbbbbbbbbbbbbbbbbbbbbbbbbbbbbbbbbbbbbbbbbbbbbbbbbbbbbbbbbbbbbbbbbbbbbbbbbbbbbbbbbbbbbbbbbbbbbbbbbbbbbbbbbbbbbbbbbbbbbbbbbbbbbbbbbbbbbbbbbbbbbbbbbbbbbbbbbbbbbbbbbbbbbb") (hex "65666768696a6b6c") ≡ textCalled 0 (hex "6265737420333020776f727374203330207669736974732032300a6c6f6f7020302077616c6b6564206365696c696e672031300a6c6f6f7020323520697320756e6576656e20696e206c6f6f7020300a6c6f6f7020323520636c6f736564206365696c696e6720350abb") (hex "6900000000000000"))
+unfolding computes
+text-call-2 = (refl, refl)
+
+pub reading-back-1 :
+    -- a choice's line
+    (readReason (text "choice 25 holds a loop\n") ≡ some (holdsLoop 25))
+    -- a line of too few trips
+    × (readReason (text "loop 50 may fall below no trips\n") ≡ some (tooFewTrips 50))
+    -- an uneven loop's line
+    × (readReason (text "loop 1574 is uneven in loop 0\n") ≡ some (unevenIn 1574 0))
+    -- offset 0
+    × (readReason (text "choice 0 holds a loop\n") ≡ some (holdsLoop 0))
+    -- a leading zero
+    × (readReason (text "choice 01 holds a loop\n") ≡ none)
+    -- a leading zero in the second offset
+    × (readReason (text "loop 50 is uneven in loop 00\n") ≡ none)
+    -- offset 65,535
+    × (readReason (text "loop 65535 may fall below no trips\n") ≡ some (tooFewTrips 65535))
+    -- offset 65,536
+    × (readReason (text "loop 65536 may fall below no trips\n") ≡ none)
+    -- second offset 65,535
+    × (readReason (text "loop 65535 is uneven in loop 65535\n") ≡ some (unevenIn 65535 65535))
+    -- second offset 65,536
+    × (readReason (text "loop 65535 is uneven in loop 65536\n") ≡ none)
+    -- offset 65,536 + 25
+    × (readReason (text "choice 65561 holds a loop\n") ≡ none)
+    -- no offset
+    × (readReason (text "choice  holds a loop\n") ≡ none)
+    -- no second offset
+    × (readReason (text "loop 50 is uneven in loop \n") ≡ none)
+    -- a loop's phrase after a choice
+    × (readReason (text "choice 25 may fall below no trips\n") ≡ none)
+    -- a choice's phrase after a loop
+    × (readReason (text "loop 25 holds a loop\n") ≡ none)
+    -- no line feed
+    × (readReason (text "choice 25 holds a loop") ≡ none)
+    -- no line feed after the second offset
+    × (readReason (text "loop 50 is uneven in loop 25") ≡ none)
+    -- a line feed too much
+    × (readReason (text "choice 25 holds a loop\n\n") ≡ none)
+    -- two lines
+    × (readReason (text "choice 25 holds a loop\nchoice 25 holds a loop\n") ≡ none)
+    -- nothing
+    × (readReason (text "") ≡ none)
+unfolding computes
+reading-back-1 = (refl, refl, refl, refl, refl, refl, refl, refl, refl, refl, refl, refl, refl, refl, refl, refl, refl, refl, refl, refl)
+
+pub reading-back-2 :
+    -- a line feed
+    (readReason (text "\n") ≡ none)
+    -- the figures line
+    × (readReason (text "best 45 worst 45 visits 3\n") ≡ none)
+    -- a loop's line
+    × (readReason (text "loop 0 walked ceiling 10\n") ≡ none)
+unfolding computes
+reading-back-2 = (refl, refl, refl)
 
 pub numbers-1 :
     -- every figure is below 2^62

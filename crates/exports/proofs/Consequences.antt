@@ -73,7 +73,7 @@ KnownTextCall input known = (buffer area after left : List ℕ) → Promised inp
 
 -- from the promises alone, and from what the definitions print
 pub known-text : (input known : List ℕ) → programText input ≡ known → KnownTextCall input known
-known-text input known same buffer area after left (number, (text, (stored, reads))) =
+known-text input known same buffer area after left (number, (text, (stored, (reads, reasons)))) =
     let laws = text-call input buffer area in
     subst (λ (k : List ℕ). KnownText k buffer area after left) same (record {
       held = reads refl;

@@ -6,8 +6,11 @@ use native.Mathlib.Omega.{arith}
 use lib.ListN.{length, drop}
 use Rattle.meaning.specs.Limits.{lengthSize}
 use Rattle.meaning.specs.Number.{littleEndian}
-use Rattle.meaning.specs.Program.{programText}
+use Rattle.meaning.specs.Program.{inputParameters, inputSheet, programText}
+use Rattle.meaning.specs.Reader.{read}
+use Rattle.meaning.specs.ReasonsTold.{ReasonsTold}
 use Rattle.meaning.specs.TextCall.{TextCalled, storeText, fitText, textCall, textIn}
+use Rattle.meaning.proofs.Reasons.{reasons-told}
 use Rattle.meaning.proofs.TextCalls.{fit-refused, fit-ok, short-area, long-area, text-call}
 
 -- what a definition says of a call is this number, this buffer and this area
@@ -38,11 +41,13 @@ module _ (input buffer area : List ℕ) where
   abbrev pub Promised : ℕ → List ℕ → List ℕ → Type 0
   Promised number text left =
       (number ≡ textCall input buffer area .number) × ((text ≡ textCall input buffer area .text)
-      × ((left ≡ textCall input buffer area .area) × (number ≡ 0 → textIn text left ≡ programText input)))
+      × ((left ≡ textCall input buffer area .area) × ((number ≡ 0 → textIn text left ≡ programText input) × ReasonsTold (inputParameters input) (read (inputSheet input)))))
 
   -- refusal 9
   pub promised-short : length area < lengthSize → Promised 9 buffer area
-  promised-short h = let l = leaves-by (short-area input buffer area h) in (l .0, (l .1 .0, (l .1 .1, λ z. absurd (omega arith))))
+  promised-short h =
+      let l = leaves-by (short-area input buffer area h) in
+      (l .0, (l .1 .0, (l .1 .1, (λ z. absurd (omega arith), reasons-told (inputParameters input) (inputSheet input)))))
 
   -- otherwise what storing the text leaves
   pub promised-stored : {text after left : List ℕ} {number : ℕ} → lengthSize ≤ length area → text ≡ programText input →
@@ -50,4 +55,5 @@ module _ (input buffer area : List ℕ) where
   promised-stored {text} {after} {left} {number} h same small stored =
       let call = ap (λ (t : List ℕ). storeText buffer area (fitText buffer t)) same ∙ sym (long-area input buffer area h) in
       let l = subst (λ (c : TextCalled). Leaves c number after left) call stored in
-      (l .0, (l .1 .0, (l .1 .1, λ z. (λ i. textIn (l .1 .0 i) (l .1 .1 i)) ∙ text-call input buffer area .readBack (sym (l .0) ∙ z) small)))
+      let reads : number ≡ 0 → textIn after left ≡ programText input = λ z. (λ i. textIn (l .1 .0 i) (l .1 .1 i)) ∙ text-call input buffer area .readBack (sym (l .0) ∙ z) small in
+      (l .0, (l .1 .0, (l .1 .1, (reads, reasons-told (inputParameters input) (inputSheet input)))))

@@ -5,7 +5,9 @@ mod lent_text;
 ghost use mathlib.Core.Path.{_≡_};
 ghost use mathlib.Core.List.{[], _∷_};
 ghost use Rattle.meaning.specs.CCall.{cCall};
-ghost use Rattle.meaning.specs.Program.{programText};
+ghost use Rattle.meaning.specs.Program.{inputParameters, inputSheet, programText};
+ghost use Rattle.meaning.specs.Reader.{read};
+ghost use Rattle.meaning.specs.ReasonsTold.{ReasonsTold};
 ghost use Rattle.meaning.specs.TextCall.{textCall, textIn};
 ghost use Rattle.exports.specs.Demand.{Stored};
 use crate::area::AREA_LENGTH;
@@ -53,6 +55,7 @@ pub extern "C" fn pumdalin_text(input: &[u8], text: &mut [u8], answer: &mut [u8]
     ensures text { λ _. ⌜ now (text .exit) ≡ textCall (now (input .entry)) (now (text .entry)) (now (answer .entry)) .text ⌝ }
     ensures area { λ _. ⌜ now (answer .exit) ≡ textCall (now (input .entry)) (now (text .entry)) (now (answer .entry)) .area ⌝ }
     ensures reads { λ r. ⌜ (r ≡ 0 → textIn (now (text .exit)) (now (answer .exit)) ≡ programText (now (input .entry))) ⌝ }
+    ensures reasons { λ _. ⌜ ReasonsTold (inputParameters (now (input .entry))) (read (inputSheet (now (input .entry)))) ⌝ }
 {
     if answer.len() < LENGTH_SIZE {
         9

@@ -103,9 +103,13 @@ module _ (rows : List ℕ) (number : ℕ) where
   abbrev pub depthAt : ℕ
   depthAt = min (numberIn rows number 6) depthLimit
 
+  -- how many loops stand before it
+  abbrev pub loopsBeforeAt : ℕ
+  loopsBeforeAt = numberIn rows number 7
+
   -- the number of a loop among the loops
   abbrev pub loopAt : ℕ
-  loopAt = numberIn rows number 7 % loopLimit
+  loopAt = loopsBeforeAt % loopLimit
 
   abbrev pub offsetAt : ℕ
   offsetAt = numberIn rows number 8

@@ -3,7 +3,7 @@ ghost use mathlib.Core.Path.{_≡_};
 ghost use Prim.Native.Nat.{_<_};
 ghost use lib.Seq.{paste};
 ghost use Rattle.layout.specs.Rows.{rowWidth, rowFrom, rowNumbers, numberIn};
-ghost use Rattle.layout.specs.Rows.{roleAt, firstAt, secondAt, entryCostAt, endAt, afterEndAt, enclosingAt, openerAt, frameAt, depthAt, loopAt, offsetAt};
+ghost use Rattle.layout.specs.Rows.{roleAt, firstAt, secondAt, entryCostAt, endAt, afterEndAt, enclosingAt, openerAt, frameAt, depthAt, loopsBeforeAt, loopAt, offsetAt};
 use crate::MAX_LOOPS;
 use crate::position;
 use crate::put;
@@ -169,15 +169,29 @@ pub fn depth_at(rows: &Rows, number: usize) -> usize
     if depth < MAX_DEPTH { depth } else { MAX_DEPTH }
 }
 
+// How many loops stand before a record.
+pub fn loops_before_at(rows: &Rows, number: usize) -> usize
+    ensures { λ r. ⌜ r ≡ loopsBeforeAt (now (rows .entry)) number ⌝ }
+{
+    position(column_at(rows, number, LOOPS))
+}
+
 // The number of a loop among the loops.
 pub fn loop_at(rows: &Rows, number: usize) -> usize
     ensures { λ r. ⌜ r ≡ loopAt (now (rows .entry)) number ⌝ }
 {
-    position(column_at(rows, number, LOOPS)) % MAX_LOOPS
+    loops_before_at(rows, number) % MAX_LOOPS
+}
+
+// The offset at the width of a row.
+pub fn place_at(rows: &Rows, number: usize) -> u16
+    ensures { λ r. ⌜ r ≡ offsetAt (now (rows .entry)) number ⌝ }
+{
+    column_at(rows, number, OFFSET)
 }
 
 pub fn offset_at(rows: &Rows, number: usize) -> usize
     ensures { λ r. ⌜ r ≡ offsetAt (now (rows .entry)) number ⌝ }
 {
-    position(column_at(rows, number, OFFSET))
+    position(place_at(rows, number))
 }

@@ -32,12 +32,12 @@ use Rattle.nest.proofs.Places.{in-place-through, loop-in-place}
 use Rattle.nest.proofs.RowsRead.{loop-number-small, loop-reads, offset-reads, role-reads}
 use Rattle.nest.proofs.Walks.{loopsThrough, opens-one-more, opensThrough}
 use Rattle.loops.specs.declared.forms.Around.{Around}
-use Rattle.loops.specs.Enclosing.{Enclosing, enclosingAfter, nothingOpen}
+use Rattle.loops.specs.Enclosing.{Enclosing, enclosingAfter, loopsAround, nothingOpen}
 use Rattle.loops.specs.Reckoned.{FourSmall}
 use Rattle.loops.specs.Facts.{LoopFacts, factsAt, factsFrom, loopsIn, sheetFacts}
 use Rattle.loops.proofs.Sizes.{AllRising, Rising, SmallEnclosing, SmallParameters, fixedLimit, nothing-small, reach, sizes, small-through, sum}
 use Rattle.loops.proofs.Holding.{Holding, Small, holding-left, holding-same}
-use Rattle.loops.proofs.Enclosings.{OpenLoops, enclosing-one-more, loopsAround, nothing-open, open-loops-through}
+use Rattle.loops.proofs.Enclosings.{OpenLoops, enclosing-one-more, nothing-open, open-loops-through}
 use Rattle.loops.proofs.Facts.{facts-after, facts-length, facts-take, loops-counted}
 
 -- ---- sizes
@@ -96,7 +96,7 @@ module _ {os : List Open} {e : Enclosing} {a : Around} {pushes : List (List ℤ)
 
 -- ---- the facts of a record
 
-in-range-of : (l : Loop) (rs : List Record) (os : List Open) → InPlace os (loopRecord l ∷ rs) → T (fieldsInRange os (loopRecord l))
+pub in-range-of : (l : Loop) (rs : List Record) (os : List Open) → InPlace os (loopRecord l ∷ rs) → T (fieldsInRange os (loopRecord l))
 unfolding InPlace
 in-range-of l rs os h = h .2
 

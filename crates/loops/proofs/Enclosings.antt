@@ -12,7 +12,7 @@ use Rattle.meaning.specs.Closed.{push, pushInner, pushOwn}
 use Rattle.meaning.specs.Form.{value}
 use Rattle.nest.specs.Walk.{opensAfter}
 use Rattle.nest.proofs.Walks.{Balanced, opensThrough, through, through-records}
-use Rattle.loops.specs.Enclosing.{Enclosing, enclosingAfter, enter, leave, nothingOpen, withoutLast}
+use Rattle.loops.specs.Enclosing.{Enclosing, enclosingAfter, enclosingThrough, enter, leave, nothingOpen, withoutLast}
 
 -- ---- a loop is entered and left
 
@@ -40,14 +40,6 @@ module _ (ps : List ℤ) where
   }
 
 -- ---- the walk
-
-unfoldable pub enclosingThrough : List ℤ → List Open → Enclosing → List Record → Enclosing
-enclosingThrough ps os e [] = e
-enclosingThrough ps os e (r ∷ rs) = enclosingThrough ps (opensAfter os r) (enclosingAfter ps os e r) rs
-
--- the open loops before the record that follows the records xs of a sheet
-abbrev pub loopsAround : List ℤ → List Record → Enclosing
-loopsAround ps xs = enclosingThrough ps [] nothingOpen xs
 
 pub enclosing-append : (ps : List ℤ) (xs ys : List Record) (os : List Open) (e : Enclosing) →
     enclosingThrough ps os e (xs ++ ys) ≡ enclosingThrough ps (opensThrough os xs) (enclosingThrough ps os e xs) ys

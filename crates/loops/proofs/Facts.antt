@@ -10,9 +10,9 @@ use Rattle.meaning.specs.Tree.{Arms, Block, arm, armsRecords, choice, empty, la
 use Rattle.meaning.specs.Record.{Loop, Open, Record, choiceRecord, endRecord, loopRecord, nextArmRecord, openChoice, openLoop, workRecord}
 use Rattle.nest.specs.Walk.{opensAfter, loopsAfter}
 use Rattle.nest.proofs.Walks.{opensThrough, loopsThrough}
-use Rattle.loops.specs.Enclosing.{enclosingAfter, enter, Enclosing}
+use Rattle.loops.specs.Enclosing.{Enclosing, enclosingAfter, enclosingThrough, enter}
 use Rattle.loops.specs.Facts.{LoopFacts, factsAt, factsFrom, loopsIn}
-use Rattle.loops.proofs.Enclosings.{enclosingThrough, leave-enter}
+use Rattle.loops.proofs.Enclosings.{leave-enter}
 
 module _ (ps : List ℤ) where
   pub facts-length : (os : List Open) (e : Enclosing) (rs : List Record) → length (factsFrom ps os e rs) ≡ length rs

@@ -26,8 +26,7 @@ use Rattle.form.proofs.FormLaws.{Plain}
 use Rattle.nest.specs.Walk.{opensAfter}
 use Rattle.nest.proofs.Places.{in-place-next, in-place-through}
 use Rattle.nest.proofs.Walks.{opensThrough}
-use Rattle.loops.specs.Enclosing.{Enclosing, enclosingAfter, enter, leave, nothingOpen, withoutLast}
-use Rattle.loops.proofs.Enclosings.{enclosingThrough}
+use Rattle.loops.specs.Enclosing.{Enclosing, enclosingAfter, enclosingThrough, enter, leave, nothingOpen, withoutLast}
 
 -- ---- sizes that rise with the depth
 

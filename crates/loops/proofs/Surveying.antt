@@ -38,12 +38,11 @@ use Rattle.nest.proofs.Walks.{opensThrough}
 use Rattle.nest.proofs.RowsOf.{rows-length}
 use Rattle.loops.specs.declared.forms.Around.{Around}
 use Rattle.loops.specs.declared.forms.Forms.{Forms}
-use Rattle.loops.specs.Enclosing.{Enclosing, choiceDepth, enclosingAfter, enter}
+use Rattle.loops.specs.Enclosing.{choiceDepth, Enclosing, enclosingAfter, enclosingThrough, enter, loopsAround}
 use Rattle.loops.specs.Forms.{FormsOf}
 use Rattle.loops.specs.Reckoned.{FourSmall, aroundWith, ceilingWithin, factWithin, loopWords, pushesWith}
 use Rattle.loops.specs.Facts.{LoopFacts, factOf, factsAt, factsStored, loopFacts, loopsIn, overCeiling, sheetFacts, wordsOf, wordsStored, withinCeiling}
 use Rattle.loops.proofs.Holding.{Holding, Small, ceiling-of-loop, fact-of-loop, holding-entered, holding-start, noNumbers, words-of-loop}
-use Rattle.loops.proofs.Enclosings.{enclosingThrough, loopsAround}
 use Rattle.loops.proofs.AtRecord.{fact-at, facts-count, loop-placed, loop-there, no-facts, number-is, offset-is, role-is, row-offset, source-is}
 use Rattle.loops.proofs.AtRecord.{holding-over, loops-step, open-loops-at, opens-step, small-at, small-open}
 use Rattle.loops.proofs.Sizes.{stride-moves}

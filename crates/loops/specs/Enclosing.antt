@@ -7,6 +7,7 @@ use Rattle.meaning.specs.Form.{value}
 use Rattle.meaning.specs.Record.{Loop, Record, workRecord, loopRecord, Open, openLoop, openChoice, loopDepth, endRecord, choiceRecord, nextArmRecord}
 use Rattle.meaning.specs.Range.{Range, innerRanges}
 use Rattle.meaning.specs.Closed.{pushOwn, pushInner}
+use Rattle.nest.specs.Walk.{opensAfter}
 
 -- The open loops, outermost first: the ranges of their indexes; their indexes where every counter is 0; and of each loop the pushes on
 -- the indexes at depths 1, 2, ..
@@ -51,3 +52,12 @@ module _ (parameters : List ℤ) where
   enclosingAfter (openChoice ∷ os) e endRecord = e
   enclosingAfter os e choiceRecord = e
   enclosingAfter os e nextArmRecord = e
+
+  -- after records
+  unfoldable pub enclosingThrough : List Open → Enclosing → List Record → Enclosing
+  enclosingThrough os e [] = e
+  enclosingThrough os e (r ∷ rs) = enclosingThrough (opensAfter os r) (enclosingAfter os e r) rs
+
+  -- the open loops before the record that follows the records xs of a sheet
+  abbrev pub loopsAround : List Record → Enclosing
+  loopsAround xs = enclosingThrough [] nothingOpen xs

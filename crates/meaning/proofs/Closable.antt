@@ -79,7 +79,7 @@ module _ (ps : List ℤ) where
       go true t = tt
       go false t = unfold isClosed in absurd t
 
-  closed-class : (l : Loop) (body : Block) (ranges : List Range) → T (closed ps l body ranges) → T (isClosed (loopClass ps l body ranges))
+  pub closed-class : (l : Loop) (body : Block) (ranges : List Range) → T (closed ps l body ranges) → T (isClosed (loopClass ps l body ranges))
   unfolding loopClass
   closed-class l body ranges t = go (closed ps l body ranges) t
     where

@@ -11,10 +11,9 @@ use Rattle.whole.proofs.Floor.{divides-quotient, quotient-divides}
 use Rattle.meaning.specs.Record.{Loop}
 use Rattle.meaning.specs.Tree.{Block, Arms, empty, work, loop, choice, armsLoops}
 use Rattle.meaning.specs.Time.{difference, strideSize}
-use Rattle.meaning.specs.Range.{Range, innerRanges, differenceRange}
-use Rattle.meaning.specs.Closed.{push, pushOwn, pushInner, strideDivides, askedDifference, closable, closed}
+use Rattle.meaning.specs.Range.{Range, innerRanges, rangesInside, differenceRange}
+use Rattle.meaning.specs.Closed.{push, pushOwn, pushInner, nestPushes, strideDivides, askedDifference, closable, closed}
 use Rattle.meaning.proofs.Logic.{T-and, and-T}
-use Rattle.meaning.proofs.Pushes.{nestPushes}
 use Rattle.meaning.proofs.Closable.{closable-loop, loop-closable, closable-choice}
 
 -- the block has loop k, inside the loops between, outermost first; a loop in an arm is none of these
@@ -72,19 +71,14 @@ abbrev pushesIn : Loop → ℕ → List (List ℤ) → List (List ℤ)
 pushesIn l depth pushes = pushOwn l depth ∷ map (pushInner l) pushes
 
 module _ (ps : List ℤ) where
-  -- the ranges of the indexes inside some loops more
-  unfoldable pub rangesInside : List Loop → List Range → List Range
-  rangesInside [] ranges = ranges
-  rangesInside (l ∷ between) ranges = rangesInside between (innerRanges ps l ranges)
-
   -- what closing asks of a block inside the tested loop, where `pushes` are those of that loop and of each loop between it and the block
   record Asked (b : Block) (ranges : List Range) (pushes : List (List ℤ)) : Type 0 where
     noLoopInArms : NoLoopInArms b
     smallest : (between : List Loop) (k : Loop) → Has b between k →
-        T (leZ (negℤ (pos (strideSize k))) (differenceRange ps k (rangesInside between ranges) .lo))
+        T (leZ (negℤ (pos (strideSize k))) (differenceRange ps k (rangesInside ps between ranges) .lo))
     around : (between : List Loop) (k : Loop) → Has b between k → EachDivided k between pushes
     inside : (outer : List Loop) (m : Loop) (inner : List Loop) (k : Loop) → Has b (outer ++ (m ∷ inner)) k →
-        Divided k (nestPushes inner (pushOwn m (length (rangesInside outer ranges))))
+        Divided k (nestPushes inner (pushOwn m (length (rangesInside ps outer ranges))))
 
   -- of a part of the block the same is asked
   asked-part : {b part : Block} {ranges : List Range} {pushes : List (List ℤ)} → ((between : List Loop) (k : Loop) → Has part between k → Has b between k) →
@@ -122,10 +116,10 @@ module _ (ps : List ℤ) where
   pub record ClosingAsked (l : Loop) (body : Block) (ranges : List Range) : Type 0 where
     pub noLoopInArms : NoLoopInArms body
     pub smallest : (between : List Loop) (k : Loop) → Has body between k →
-        T (leZ (negℤ (pos (strideSize k))) (differenceRange ps k (rangesInside (l ∷ between) ranges) .lo))
+        T (leZ (negℤ (pos (strideSize k))) (differenceRange ps k (rangesInside ps (l ∷ between) ranges) .lo))
     pub ofThatLoop : (between : List Loop) (k : Loop) → Has body between k → Divided k (nestPushes between (pushOwn l (length ranges)))
     pub ofLoopBetween : (outer : List Loop) (m : Loop) (inner : List Loop) (k : Loop) → Has body (outer ++ (m ∷ inner)) k →
-        Divided k (nestPushes inner (pushOwn m (length (rangesInside (l ∷ outer) ranges))))
+        Divided k (nestPushes inner (pushOwn m (length (rangesInside ps (l ∷ outer) ranges))))
 
   pub closes : (l : Loop) (body : Block) (ranges : List Range) → ClosingAsked l body ranges → T (closed ps l body ranges)
   unfolding closed rangesInside EachDivided
@@ -174,7 +168,7 @@ module _ (ps : List ℤ) where
   entered (afterChoice {arms} {k} {rest} h) ranges pushes t = entered h ranges pushes (closable-choice ps arms rest ranges pushes t .1)
 
   closable-smallest : (b : Block) (between : List Loop) (k : Loop) → Has b between k → (ranges : List Range) (pushes : List (List ℤ)) →
-      T (closable ps b ranges pushes) → T (leZ (negℤ (pos (strideSize k))) (differenceRange ps k (rangesInside between ranges) .lo))
+      T (closable ps b ranges pushes) → T (leZ (negℤ (pos (strideSize k))) (differenceRange ps k (rangesInside ps between ranges) .lo))
   unfolding rangesInside
   closable-smallest b [] k h ranges pushes t = own-tests h ranges pushes t .0
   closable-smallest b (l ∷ between) k h ranges pushes t =
@@ -192,7 +186,7 @@ module _ (ps : List ℤ) where
 
   closable-inside : (b : Block) (outer : List Loop) (m : Loop) (inner : List Loop) (k : Loop) → Has b (outer ++ (m ∷ inner)) k →
       (ranges : List Range) (pushes : List (List ℤ)) → T (closable ps b ranges pushes) →
-      Divided k (nestPushes inner (pushOwn m (length (rangesInside outer ranges))))
+      Divided k (nestPushes inner (pushOwn m (length (rangesInside ps outer ranges))))
   unfolding EachDivided rangesInside
   closable-inside b [] m inner k h ranges pushes t =
       let e = entered h ranges pushes t in

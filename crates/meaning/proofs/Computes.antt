@@ -11,6 +11,8 @@ use Rattle.meaning.specs.Run.{TripsRun, Run, ArmRun}
 use Rattle.meaning.specs.Range.{scale, addRange, dotRange, range, indexRange, innerRanges, differenceRange, ceiling}
 use Rattle.meaning.specs.Closed.{push, pushOwn, pushInner, strideDivides, askedDifference, isClosed, closable, closed, loopClass}
 use Rattle.meaning.specs.Visits.{countOver, visitedOf, visitedTrips, visits, armsVisits}
+use Rattle.meaning.specs.Reason.{firstFailing, choiceTests, armsChoiceTests, aroundWith, unevenTests, ownTests}
+use Rattle.meaning.specs.Reason.{loopTests, armsLoopTests, closingTests, reasonOf}
 use Rattle.meaning.specs.Report.{orElse, firstOverCeiling, allClosed, loopReports, armsReports}
 use Rattle.meaning.specs.ClosedSum.{closedSum, addAll, loopSum, addTrip}
 use Rattle.meaning.specs.Stage.{firstState, afterEnd, addArm, stateOf, visitBegun, andOn, indexesOf, rangesOf}
@@ -18,7 +20,8 @@ use Rattle.meaning.specs.Stage.{enterLoop, endTrip, passRecord, pass, pa
 use Rattle.meaning.specs.Answer.{sheetReports, checkCeilings, accepted, figuresOf, checkVisits, answer}
 use Rattle.meaning.specs.CCall.{areaBytes, storeAnswer, cCall, figuresIn}
 use Rattle.meaning.specs.Text.{text, lastDigit, digits, decimal}
-use Rattle.meaning.specs.Program.{figuresLine, className, loopLine, loopLines, refusedLine, answerText}
+use Rattle.meaning.specs.ReasonLine.{unevenLineStart, reasonLine, reasonLines, numberAfter, numberAt, sameText, firstWithLine, readReason}
+use Rattle.meaning.specs.Program.{figuresLine, className, loopLine, reportLines, loopLines, refusedLine, answerText}
 use Rattle.meaning.specs.Program.{inputParameters, inputBudget, inputSheet, reportsOf, programText}
 use Rattle.meaning.specs.TextCall.{storeText, fitText, textCall, textIn}
 use Rattle.meaning.proofs.Vocabulary.{hexDigit, hex, sheetReportsOf, stateAfter}
@@ -27,14 +30,15 @@ use Rattle.whole.specs.Newton.{choose, differences, newtonTerms, newtonSum}
 
 unfoldable pub computes : Unit {0}
 unfolding unsigned littleEndian decodeSigned encodeSigned hasPattern unsigned16 signed16 signed8 formAt formBytes isZero allZero factorsFit formInRange value
-    subtract kindNumber kindOf bodyLength kind recordLength decodeRecord bodyBytes recordBytes sheetBytes sheetLength loopDepth fieldsInRange openAfter
-    require orRefuse andThen accept readRecord endOfSheet readFrom read headOf headAt bodyOf bodyAt workFieldsZero formZero loopFieldsZero
-    foreignFieldsZero recordOf checkRecord checkFrom check store write onFirst takeBody takeArms segments firstSegment tree records armsRecords loops
-    armsLoops height armsHeight difference signedStride strideSize entryCost tripCount sumOver trips indexAt innerIndexes time armsTime TripsRun Run
-    ArmRun scale addRange dotRange range indexRange innerRanges differenceRange ceiling push pushOwn pushInner strideDivides askedDifference isClosed
-    closable closed loopClass countOver visitedOf visitedTrips visits armsVisits orElse firstOverCeiling allClosed loopReports armsReports closedSum
-    addAll loopSum addTrip firstState afterEnd addArm stateOf visitBegun andOn indexesOf rangesOf enterLoop endTrip passRecord pass passFrom stage stages
-    visitsBegun sheetReports checkCeilings accepted figuresOf checkVisits answer areaBytes storeAnswer cCall figuresIn text lastDigit digits decimal
-    figuresLine className loopLine loopLines refusedLine answerText inputParameters inputBudget inputSheet reportsOf programText storeText fitText
-    textCall textIn hexDigit hex sheetReportsOf stateAfter floorDivide choose differences newtonTerms newtonSum
+    subtract kindNumber kindOf bodyLength kind recordLength decodeRecord bodyBytes recordBytes sheetBytes sheetLength loopDepth fieldsInRange openAfter require
+    orRefuse andThen accept readRecord endOfSheet readFrom read headOf headAt bodyOf bodyAt workFieldsZero formZero loopFieldsZero foreignFieldsZero recordOf
+    checkRecord checkFrom check store write onFirst takeBody takeArms segments firstSegment tree records armsRecords loops armsLoops height armsHeight
+    difference signedStride strideSize entryCost tripCount sumOver trips indexAt innerIndexes time armsTime TripsRun Run ArmRun scale addRange dotRange range
+    indexRange innerRanges differenceRange ceiling push pushOwn pushInner strideDivides askedDifference isClosed closable closed loopClass countOver visitedOf
+    visitedTrips visits armsVisits firstFailing choiceTests armsChoiceTests aroundWith unevenTests ownTests loopTests armsLoopTests closingTests reasonOf orElse
+    firstOverCeiling allClosed loopReports armsReports closedSum addAll loopSum addTrip firstState afterEnd addArm stateOf visitBegun andOn indexesOf rangesOf
+    enterLoop endTrip passRecord pass passFrom stage stages visitsBegun sheetReports checkCeilings accepted figuresOf checkVisits answer areaBytes storeAnswer
+    cCall figuresIn text lastDigit digits decimal unevenLineStart reasonLine reasonLines numberAfter numberAt sameText firstWithLine readReason figuresLine
+    className loopLine reportLines loopLines refusedLine answerText inputParameters inputBudget inputSheet reportsOf programText storeText fitText textCall textIn hexDigit
+    hex sheetReportsOf stateAfter floorDivide choose differences newtonTerms newtonSum
 computes = tt

@@ -11,6 +11,7 @@ pub mod Refusals
 pub mod RecordReader
 pub mod Input
 pub mod Decimal
+pub mod ReasonLines
 pub mod Runs
 pub mod Ranges
 pub mod Pushes
@@ -22,6 +23,13 @@ pub mod Passes
 pub mod AddingUp
 pub mod Stages
 pub mod Reports
+pub mod TestLists
+pub mod PassingTests
+pub mod FailingTests
+pub mod TestOrder
+pub mod ReasonPlaces
+pub mod Reasons
+pub mod ReasonConsequences
 pub mod FewVisits
 pub mod SmallFigures
 pub mod Answers

@@ -17,7 +17,7 @@ use Rattle.whole.proofs.Degree.{firstOf-⊞, restOf-⊞}
 use Rattle.meaning.specs.Form.{Form, value}
 use Rattle.meaning.specs.Record.{Loop}
 use Rattle.meaning.specs.Time.{difference, signedStride, strideSize, indexAt, innerIndexes}
-use Rattle.meaning.specs.Closed.{push, pushOwn, pushInner, strideDivides}
+use Rattle.meaning.specs.Closed.{push, pushOwn, pushInner, nestPushes, strideDivides}
 use Rattle.meaning.proofs.Logic.{T-and}
 
 -- ---- a push is linear in the moves of the indexes
@@ -77,11 +77,6 @@ length-pushOwn l depth = length-append-one (replicate depth (pos zero)) (signedS
 length-pushInner : (l : Loop) (moves : List ℤ) (depth : ℕ) → length moves ≡ depth → length (pushInner l moves) ≡ suc depth
 unfolding pushInner
 length-pushInner l moves depth e = length-append-one moves (push (l .lower) moves) depth e
-
--- the pushes of a loop on the indexes of a nest inside it, from those on the indexes up to its own, as `closable` takes them along
-unfoldable pub nestPushes : List Loop → List ℤ → List ℤ
-nestPushes [] pushes = pushes
-nestPushes (l ∷ inner) pushes = nestPushes inner (pushInner l pushes)
 
 -- the loops of a nest whose counters are given
 abbrev pub loopsOf : List (Loop × ℕ) → List Loop

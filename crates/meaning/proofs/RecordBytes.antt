@@ -3,7 +3,7 @@ use mathlib.Core.Path.{_≡_, refl, sym, ap, _∙_, subst}
 use mathlib.Core.List.{List, [], _∷_, _++_, append-nil}
 use mathlib.Core.Bool.{Bool, true, false, cond}
 use mathlib.Core.Option.{Option, none, some}
-use Prim.Native.Nat.{ℕ, zero, suc, _+_, _≤_, _<_, _^_}
+use Prim.Native.Nat.{ℕ, zero, suc, _+_, _*_, _≤_, _<_, _^_}
 use native.Mathlib.Nat.{add-zero}
 use native.Mathlib.Omega.{arith}
 use lib.IntN.{ℤ, pos}
@@ -15,7 +15,7 @@ use Rattle.meaning.specs.Limits.{bodyLimit, recordLengthLimit, constantH
 use Rattle.meaning.specs.Number.{unsigned, littleEndian, decodeSigned, encodeSigned, hasPattern, unsigned16, signed16, signed8}
 use Rattle.meaning.specs.Form.{Form, formAt, formBytes, factorsFit}
 use Rattle.meaning.specs.Record.{Kind, workKind, loopKind, endKind, choiceKind, nextArmKind, kindNumber, kindOf, bodyLength}
-use Rattle.meaning.specs.Record.{Loop, Record, workRecord, loopRecord, endRecord, choiceRecord, nextArmRecord, kind, recordLength}
+use Rattle.meaning.specs.Record.{Loop, Record, workRecord, loopRecord, endRecord, choiceRecord, nextArmRecord, kind, recordLength, sheetLength}
 use Rattle.meaning.specs.Record.{decodeRecord, bodyBytes, Open, loopDepth, fieldsInRange}
 use Rattle.meaning.proofs.Logic.{T-and, none-is-not-some}
 use Rattle.meaning.proofs.Number.{Bytes, bytes-getD, length-littleEndian, unsigned-littleEndian, littleEndian-unsigned}
@@ -58,6 +58,16 @@ bodyLength-bound nextArmKind = omega arith
 pub recordLength-bound : (r : Record) → recordLength r ≤ recordLengthLimit
 unfolding recordLength
 recordLength-bound r = omega (arith, bodyLength-bound (kind r))
+
+pub sheetLength-append : (rs ss : List Record) → sheetLength (rs ++ ss) ≡ sheetLength rs + sheetLength ss
+unfolding sheetLength
+sheetLength-append [] ss = omega arith
+sheetLength-append (r ∷ rs) ss = omega (arith, sheetLength-append rs ss)
+
+pub sheetLength-bound : (rs : List Record) → sheetLength rs ≤ recordLengthLimit * length rs
+unfolding sheetLength
+sheetLength-bound [] = omega arith
+sheetLength-bound (r ∷ rs) = omega (arith, recordLength-bound r, sheetLength-bound rs)
 
 -- ---- a decoded body is written as it was
 

@@ -13,6 +13,7 @@ use Rattle.meaning.specs.Record.{Loop, Record}
 use Rattle.meaning.specs.Reader.{Result, ok, refused, read, Head}
 use Rattle.meaning.specs.Writer.{RawRecord, Written}
 use Rattle.meaning.specs.Closed.{closedClass, walkedClass}
+use Rattle.meaning.specs.Reason.{Reason}
 use Rattle.meaning.specs.Report.{LoopReport}
 use Rattle.meaning.specs.Stage.{State, firstState, stages}
 use Rattle.meaning.specs.CCall.{Called}
@@ -48,10 +49,10 @@ raw kindByte least most start step stride lower upper =
     record { kindByte = kindByte; least = least; most = most; loopFields = loopOf start step stride lower upper }
 
 abbrev pub closedLoop : ℕ → ℕ → LoopReport
-closedLoop offset ceiling = record { offset = offset; class = closedClass; ceiling = ceiling }
+closedLoop offset ceiling = record { offset = offset; class = closedClass; ceiling = ceiling; reason = none }
 
-abbrev pub walkedLoop : ℕ → ℕ → LoopReport
-walkedLoop offset ceiling = record { offset = offset; class = walkedClass; ceiling = ceiling }
+abbrev pub walkedLoop : ℕ → ℕ → Reason → LoopReport
+walkedLoop offset ceiling reason = record { offset = offset; class = walkedClass; ceiling = ceiling; reason = some reason }
 
 unfoldable pub sheetReportsOf : List ℕ → List ℤ → List LoopReport
 sheetReportsOf sheet parameters = reportsOf parameters (read sheet)

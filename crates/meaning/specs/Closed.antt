@@ -26,6 +26,11 @@ pushOwn l depth = replicate depth (pos zero) ++ (signedStride l ∷ [])
 unfoldable pub pushInner : Loop → List ℤ → List ℤ
 pushInner l pushes = pushes ++ (push (l .lower) pushes ∷ [])
 
+-- with those on the indexes of several loops inside, outermost first
+unfoldable pub nestPushes : List Loop → List ℤ → List ℤ
+nestPushes [] pushes = pushes
+nestPushes (l ∷ inner) pushes = nestPushes inner (pushInner l pushes)
+
 -- the loop's stride divides the push on its D of each of the loops
 unfoldable pub strideDivides : Loop → List (List ℤ) → Bool
 strideDivides l [] = true

@@ -10,12 +10,17 @@ pub mod Run
 pub mod Range
 pub mod Closed
 pub mod Visits
+pub mod Place
+pub mod Reason
+pub mod ReasonOrder
 pub mod Report
 pub mod ClosedSum
 pub mod Stage
 pub mod Answer
 pub mod CCall
 pub mod Text
+pub mod ReasonLine
+pub mod ReasonsTold
 pub mod Program
 pub mod TextCall
 pub mod Demand

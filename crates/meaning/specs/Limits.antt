@@ -1,4 +1,4 @@
--- The numbers of document 01 and of the calls that store a text, each named once.
+-- The numbers of document 01, of the calls that store a text and of the reasons, each named once.
 use Prim.Native.Nat.{ℕ, _+_, _*_, _^_}
 
 -- "The sheet": at most 64 records, loops 4 deep, 8 records open together
@@ -73,3 +73,7 @@ headerLength = 12
 -- these, the longest sheet, and a byte of one record more: so many bytes of the input matter
 abbrev pub inputLimit : ℕ
 inputLimit = headerLength + sheetLengthLimit + 1
+
+-- a place in a sheet is below this, so that it has 16 bits where a plan or a reason holds it
+abbrev pub offsetLimit : ℕ
+offsetLimit = 2 ^ 16

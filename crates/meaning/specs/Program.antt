@@ -13,6 +13,7 @@ use Rattle.meaning.specs.Record.{Record}
 use Rattle.meaning.specs.Reader.{Result, ok, refused, read}
 use Rattle.meaning.specs.Closed.{LoopClass, closedClass, walkedClass}
 use Rattle.meaning.specs.Report.{LoopReport}
+use Rattle.meaning.specs.ReasonLine.{reasonLines}
 use Rattle.meaning.specs.Answer.{Figures, sheetReports, answer}
 
 -- `best B worst W visits V`
@@ -28,9 +29,13 @@ className walkedClass = "walked"
 unfoldable pub loopLine : LoopReport → List ℕ
 loopLine r = text "loop " ++ decimal (r .offset) ++ text " " ++ text (className (r .class)) ++ text " ceiling " ++ decimal (r .ceiling) ++ text "\n"
 
+-- document 02: a loop's line, and after that of a walked loop the line of its reason
+unfoldable pub reportLines : LoopReport → List ℕ
+reportLines r = loopLine r ++ reasonLines (r .reason)
+
 unfoldable pub loopLines : List LoopReport → List ℕ
 loopLines [] = []
-loopLines (r ∷ rs) = loopLine r ++ loopLines rs
+loopLines (r ∷ rs) = reportLines r ++ loopLines rs
 
 -- `refused R at P`
 unfoldable pub refusedLine : ℕ → ℕ → List ℕ

@@ -40,6 +40,11 @@ module _ (parameters : List ℤ) where
   unfoldable pub innerRanges : Loop → List Range → List Range
   innerRanges l ranges = ranges ++ (indexRange l ranges ∷ [])
 
+  -- those inside several loops, outermost first
+  unfoldable pub rangesInside : List Loop → List Range → List Range
+  rangesInside [] ranges = ranges
+  rangesInside (l ∷ inner) ranges = rangesInside inner (innerRanges l ranges)
+
   -- "D is ranged as one form, after subtraction"
   unfoldable pub differenceRange : Loop → List Range → Range
   differenceRange l ranges = range (difference l) ranges

@@ -14,9 +14,10 @@ use Rattle.meaning.specs.Record.{Record, bodyLength, endRecord, kindNumber, rec
 use Rattle.meaning.specs.Reader.{bodyAt}
 use Rattle.meaning.specs.Limits.{recordLimit}
 use Rattle.meaning.proofs.RecordReader.{StandsAt}
+use Rattle.meaning.proofs.RecordBytes.{sheetLength-bound}
 use Rattle.records.specs.View.{lengthOfKind}
 use Rattle.sheet.specs.Sheets.{recordsOf}
-use Rattle.sheet.proofs.SheetRecords.{few-records, kind-there, length-by-number, next-offset, record-fits, record-stands, sheetLength-small}
+use Rattle.sheet.proofs.SheetRecords.{few-records, kind-there, length-by-number, next-offset, record-fits, record-stands}
 use Rattle.layout.specs.Rows.{roleNumber, roleOf}
 use Rattle.nest.specs.Known.{RecordAt, RecordBefore}
 use Rattle.nest.specs.Roles.{openAfterRole, roleOfByte}
@@ -54,7 +55,7 @@ module _ {sheet : List ℕ} {count n at : ℕ} (g : RecordAt sheet count n at) w
   unfolding bodyLength
   offset-small =
       let few : length (take n (recordsOf sheet)) ≡ n = length-take-le n (recordsOf sheet) (omega (arith, present)) in
-      omega (arith, g .offset, sheetLength-small (take n (recordsOf sheet)), few, few-records sheet, present)
+      omega (arith, g .offset, sheetLength-bound (take n (recordsOf sheet)), few, few-records sheet, present)
 
   pub next-inside : sheetLength (take (n + 1) (recordsOf sheet)) ≤ length sheet
   next-inside = omega (arith, record-fits sheet n present, next-offset sheet n present)

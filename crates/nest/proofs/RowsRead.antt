@@ -1,23 +1,23 @@
 -- What the rows of a sheet's records say where they are read by a record's number.
 use mathlib.Core.List.{_++_, List, [], _∷_}
 use mathlib.Core.Path.{ap, refl, _∙_, _≡_}
-use Prim.Native.Nat.{_%_, _<_, min, suc, ℕ, _≤_}
+use Prim.Native.Nat.{_%_, _+_, _<_, min, suc, ℕ, _≤_}
 use native.Mathlib.Omega.{arith}
 use native.Mathlib.Nat.{mod-eq-of-lt}
-use lib.ListN.{getD, length, length-append}
-use Rattle.meaning.specs.Record.{Loop, Record, loopDepth, loopRecord, sheetLength}
+use lib.ListN.{getD, length, length-append, length-drop}
+use Rattle.meaning.specs.Record.{Loop, Open, Record, loopDepth, loopRecord, sheetLength}
 use Rattle.meaning.specs.Limits.{depthLimit, openLimit, recordLimit}
 use Rattle.meaning.proofs.Accepted.{InPlace}
 use Rattle.layout.specs.declared.rows.Row.{Row}
 use Rattle.layout.specs.Rows.{firstCost, numberIn, roleNumber, roleOf, rowNumbers, rowWidth, secondCost}
-use Rattle.layout.specs.Rows.{depthAt, enclosingAt, endAt, firstAt, frameAt, loopAt, offsetAt, roleAt, secondAt}
+use Rattle.layout.specs.Rows.{depthAt, enclosingAt, endAt, firstAt, frameAt, loopAt, loopsBeforeAt, offsetAt, roleAt, secondAt}
 use Rattle.layout.specs.Loops.{loopLimit}
 use Rattle.layout.proofs.Reading.{blankRow, row-number}
 use Rattle.nest.specs.Rows.{endNumber, innermost, rowAt, rowsOf, rowsStored, sheetStart}
-use Rattle.nest.specs.Walk.{loopsAfter}
+use Rattle.nest.specs.Walk.{loopsAfter, recordsInside}
 use Rattle.nest.specs.Known.{RowsHeld}
 use Rattle.nest.proofs.Walks.{loops-append, loops-grow, loopsThrough, numbersThrough, opensThrough, positionAfter}
-use Rattle.nest.proofs.Places.{loops-few}
+use Rattle.nest.proofs.Places.{end-in-place, loops-few}
 use Rattle.nest.proofs.RowsOf.{row-at, rows-length}
 
 module _ {rows : List ℕ} (xs : List Record) (r : Record) (ys : List Record) (held : RowsHeld rows (xs ++ (r ∷ ys)))
@@ -63,9 +63,18 @@ module _ {rows : List ℕ} (xs : List Record) (r : Record) (ys : List Record) (h
   unfolding rowNumbers rowAt
   offset-reads = reads 8 (omega arith)
 
-  loops-read : loopAt rows (length xs) ≡ loopsThrough 0 xs % loopLimit
+  pub loops-before-reads : loopsBeforeAt rows (length xs) ≡ loopsThrough 0 xs
   unfolding rowNumbers rowAt
-  loops-read = ap (λ (n : ℕ). n % loopLimit) (reads 7 (omega arith))
+  loops-before-reads = reads 7 (omega arith)
+
+-- the end of what a record opens
+pub opened-end : {rows : List ℕ} (xs : List Record) (r : Record) (ys : List Record) (os : List Open) → RowsHeld rows (xs ++ (r ∷ ys)) →
+    length (xs ++ (r ∷ ys)) ≤ recordLimit → endNumber (length xs) r ys ≡ suc (length xs) + recordsInside 0 ys → InPlace os ys → 0 < length os →
+    endAt rows (length xs) ≡ suc (length xs) + recordsInside 0 ys
+opened-end xs r ys os held few opens inside some-open =
+    let ended = ap length (end-in-place ys os 0 inside some-open) in
+    let long = length-drop (recordsInside 0 ys) ys in
+    end-reads xs r ys held few ∙ ap (λ (n : ℕ). n % recordLimit) opens ∙ mod-eq-of-lt (omega (arith, length-append xs (r ∷ ys)))
 
 -- a loop's number among the loops of a sheet in place
 pub loop-number-small : (xs : List Record) (l : Loop) (ys : List Record) → InPlace [] (xs ++ (loopRecord l ∷ ys)) →
@@ -78,4 +87,5 @@ loop-number-small xs l ys place few =
 
 pub loop-reads : {rows : List ℕ} (xs : List Record) (l : Loop) (ys : List Record) → RowsHeld rows (xs ++ (loopRecord l ∷ ys)) →
     InPlace [] (xs ++ (loopRecord l ∷ ys)) → length (xs ++ (loopRecord l ∷ ys)) ≤ recordLimit → loopAt rows (length xs) ≡ loopsThrough 0 xs
-loop-reads xs l ys held place few = loops-read xs (loopRecord l) ys held few ∙ mod-eq-of-lt (loop-number-small xs l ys place few)
+loop-reads xs l ys held place few =
+    ap (λ (n : ℕ). n % loopLimit) (loops-before-reads xs (loopRecord l) ys held few) ∙ mod-eq-of-lt (loop-number-small xs l ys place few)

@@ -6,7 +6,7 @@ use native.Mathlib.Nat.{add-zero}
 use native.Mathlib.Omega.{arith}
 use lib.ListN.{length}
 use Rattle.meaning.specs.Record.{Loop, Record, workRecord, loopRecord, endRecord, choiceRecord, nextArmRecord, sheetLength, Open}
-use Rattle.meaning.specs.Tree.{Block, Arms, empty, work, loop, choice, lastArm, arm, records, armsRecords}
+use Rattle.meaning.specs.Tree.{Block, Arms, empty, work, loop, choice, lastArm, arm, records, armsRecords, loops, armsLoops}
 use Rattle.nest.specs.Walk.{opensAfter, numbersAfter, loopsAfter}
 use Rattle.nest.specs.Rows.{Position}
 
@@ -103,6 +103,16 @@ loops-grow (endRecord ∷ rs) n = loops-grow rs n
 loops-grow (choiceRecord ∷ rs) n = loops-grow rs n
 loops-grow (nextArmRecord ∷ rs) n = loops-grow rs n
 
+-- as many more after as before
+pub loops-more : (rs : List Record) (n : ℕ) → loopsThrough n rs ≡ n + loopsThrough 0 rs
+unfolding loopsThrough loopsAfter
+loops-more [] n = omega arith
+loops-more (workRecord least most ∷ rs) n = loops-more rs n
+loops-more (loopRecord l ∷ rs) n = omega (arith, loops-more rs (suc n), loops-more rs 1)
+loops-more (endRecord ∷ rs) n = loops-more rs n
+loops-more (choiceRecord ∷ rs) n = loops-more rs n
+loops-more (nextArmRecord ∷ rs) n = loops-more rs n
+
 pub numbers-append : (xs ys : List Record) (n : ℕ) (ns : List ℕ) → numbersThrough n ns (xs ++ ys) ≡ numbersThrough (n + length xs) (numbersThrough n ns xs) ys
 unfolding numbersThrough
 numbers-append [] ys n ns = ap (λ (m : ℕ). numbersThrough m ns ys) (let e : n ≡ n + 0 = omega arith in e)
@@ -139,3 +149,23 @@ opens-records b os = sym (through-opens (records b) 0 os) ∙ through-records (�
 
 pub numbers-records : (b : Block) (n : ℕ) (ns : List ℕ) → numbersThrough n ns (records b) ≡ ns
 numbers-records b n ns = sym (through-numbers (records b) n ns) ∙ through-records numbersAfter numbers-balanced b n ns
+
+-- a tree's records have its loops
+mutual
+  unfolding loopsThrough loopsAfter records loops
+
+  pub loops-records : (b : Block) (n : ℕ) → loopsThrough n (records b) ≡ n + loops b
+  loops-records empty n = omega arith
+  loops-records (work least most rest) n = loops-records rest n
+  loops-records (loop l body rest) n =
+      loops-append (records body) (endRecord ∷ records rest) (suc n) ∙ ap (λ (m : ℕ). loopsThrough m (records rest)) (loops-records body (suc n))
+      ∙ loops-records rest (suc n + loops body) ∙ omega arith
+  loops-records (choice arms rest) n =
+      loops-append (armsRecords arms) (endRecord ∷ records rest) n ∙ ap (λ (m : ℕ). loopsThrough m (records rest)) (loops-arms arms n)
+      ∙ loops-records rest (n + armsLoops arms) ∙ omega arith
+
+  pub loops-arms : (arms : Arms) (n : ℕ) → loopsThrough n (armsRecords arms) ≡ n + armsLoops arms
+  loops-arms (lastArm b) n = loops-records b n
+  loops-arms (arm b arms) n =
+      loops-append (records b) (nextArmRecord ∷ armsRecords arms) n ∙ ap (λ (m : ℕ). loopsThrough m (armsRecords arms)) (loops-records b n)
+      ∙ loops-arms arms (n + loops b) ∙ omega arith

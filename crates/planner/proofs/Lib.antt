@@ -1,8 +1,13 @@
 pub mod Parameters
 pub mod Preventing
+pub mod Searching
+pub mod LoopsAround
 pub mod Limits
 pub mod PlansOf
+pub mod LoopRead
 pub mod AtLoop
+pub mod TestsRead
+pub mod ReasonRead
 pub mod LimitWalk
 pub mod Reporting
 pub mod PlanReports

@@ -23,11 +23,11 @@ use Rattle.nest.proofs.Walks.{opensThrough}
 use Rattle.loops.specs.Facts.{factsAt, loopFacts, loopsIn, sheetFacts, LoopFacts}
 use Rattle.loops.proofs.AtRecord.{fact-at, loop-there, no-facts, number-is, role-is}
 use Rattle.loops.proofs.LoopsRead.{loops-append-in}
-use Rattle.loops.proofs.Enclosings.{loopsAround}
 use Rattle.planner.specs.Known.{KnownInside, Surveyed}
 use Rattle.planner.specs.Closing.{limitAmong, planAt, LoopPlan}
 use Rattle.planner.specs.Plan.{limitsStored, sheetPlans}
 use Rattle.planner.proofs.PlansOf.{definedPlan, limit-below, loop-plan, loops-before-plans, plan-of-record, plans-length}
+use Rattle.loops.specs.Enclosing.{loopsAround}
 use Rattle.planner.proofs.AtLoop.{depth-there, end-there, known-inside}
 
 limits-size : (plans : List LoopPlan) → length (limitsStored plans) ≡ length plans
@@ -67,7 +67,7 @@ module _ {count : ℕ} {rows differences facts before limits : List ℕ} {n : �
       this = getD (recordsOf sheet) n endRecord
 
       role-there : role ≡ roleNumber (roleOf this)
-      role-there = roleIs ∙ role-is sheet ps n here (s .rowsAre)
+      role-there = roleIs ∙ role-is sheet ps n here (s .sheetIs .rowsAre)
 
       abbrev plans : List (Option LoopPlan)
       plans = sheetPlans ps (recordsOf sheet)
@@ -130,7 +130,7 @@ module _ {count : ℕ} {rows differences facts before limits : List ℕ} {n : �
           sym planned ∙ ap₂ (λ (r : List Record) (m : ℕ). getD (sheetPlans ps r) m none) split (sym size) ∙ loop-plan ps xs l ys place in
           let same : plan ≡ definedPlan ps l ys os (loopsAround ps xs) = cc in
           let small : limit < 2 ^ 16 = omega (arith, ap (λ (p : LoopPlan). p .limit) same, limit-below ps xs l ys place) in
-          let place-is = number-is sheet ps n there (s .rowsAre) l (found .1) in
+          let place-is = number-is sheet ps n there (s .sheetIs .rowsAre) l (found .1) in
           let passed : List LoopPlan = loopsIn (take n (plans sheet ps s)) in
           let at : number ≡ length (limitsStored passed) =
           numberIs ∙ place-is .0 ∙ sym (loops-before-plans ps rs n) ∙ sym (limits-size passed) in

@@ -95,8 +95,10 @@ module _ (sheet : List ℕ) (ps : List ℤ) (rs : List Record) (e : accepted she
   pub plan-held : PlanHeld ps rs rows words facts limits
   unfolding planOfRecords
   plan-held = record {
-    rowsAre = record { before = rows₀; are = plan-stored .rowsAre };
-    loopsAre = record { wordsBefore = words₀; wordsAre = plan-stored .wordsAre; factsBefore = facts₀; factsAre = plan-stored .factsAre };
+    sheetIs = record {
+      rowsAre = record { before = rows₀; are = plan-stored .rowsAre };
+      loopsAre = record { wordsBefore = words₀; wordsAre = plan-stored .wordsAre; factsBefore = facts₀; factsAre = plan-stored .factsAre };
+    };
     limitsBefore = limits₀;
     limitsAre = plan-stored .limitsAre;
   }

@@ -16,10 +16,10 @@ use Rattle.nest.specs.Walk.{opensAfter, recordsInside}
 use Rattle.nest.proofs.RowsOf.{getD-from}
 use Rattle.nest.proofs.Places.{in-place-through, loop-body}
 use Rattle.nest.proofs.Walks.{opensThrough}
-use Rattle.loops.specs.Enclosing.{enclosingAfter, enter, nothingOpen, Enclosing}
+use Rattle.loops.specs.Enclosing.{Enclosing, enclosingAfter, enter, loopsAround, nothingOpen}
 use Rattle.loops.specs.Facts.{LoopFacts, factsAt, factsFrom, loopFacts, loopsIn, sheetFacts}
 use Rattle.loops.proofs.Facts.{facts-after, facts-length}
-use Rattle.loops.proofs.Enclosings.{loopsAround, nothing-open, open-loops-through}
+use Rattle.loops.proofs.Enclosings.{nothing-open, open-loops-through}
 use Rattle.planner.specs.Closing.{LoopPlan, limitAmong, limitOf, planAt, plansFrom}
 use Rattle.planner.specs.Plan.{sheetPlans}
 use Rattle.planner.proofs.Limits.{limit-class, limit-small}

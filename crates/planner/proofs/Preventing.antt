@@ -9,60 +9,75 @@ use native.Mathlib.Omega.{arith}
 use native.Mathlib.Nat.{mod-eq-of-lt, zero-mod}
 use borrow.Author.Tests.{eq-eqb, le-ltb, lt-ltb, ne-eqb}
 use lib.ListN.{drop, drop-of-length-le, getD, length, take}
+use lib.Dec.{eqb}
 use lib.Seq.{drop-cons}
 use lib.IntN.{natAbs, negsuc, pos, ℤ}
-use Rattle.whole.specs.Integer.{floorRemainder}
+use Rattle.whole.specs.Integer.{floorRemainder, divides}
 use Rattle.meaning.specs.Limits.{indexFactors, depthLimit}
 use Rattle.layout.specs.Loops.{choiceDepthAt, enoughAt, pushWordAt, strideAt, wordOf}
 use Rattle.layout.specs.Rows.{depthAt, endAt, loopAt, roleAt, roleNumber}
 use Rattle.planner.specs.Known.{KnownFacts, KnownInside}
-use Rattle.planner.specs.Closing.{heightAbove, limitAmong, prevents, somePrevents, someUneven}
+use Rattle.planner.specs.Closing.{heightAbove, limitAmong, prevents, somePrevents, someUneven, unevenAt, wordSize}
+use Rattle.meaning.proofs.Logic.{true-is-not-false}
 use Rattle.loops.specs.Facts.{LoopFacts}
 
 -- ---- words
 
-pub size-low : (z : ℤ) (w : ℕ) → natAbs z < 2 ^ 63 → w ≡ wordOf z → w < 2 ^ 63 → w ≡ natAbs z
-unfolding wordOf floorRemainder
-size-low (pos n) w s e h = let m : n < 2 ^ 64 = omega arith in e ∙ mod-eq-of-lt m
-size-low (negsuc n) w s e h = let m : n < 2 ^ 64 = omega arith in absurd (omega (arith, mod-eq-of-lt m))
+pub size-low : (word : ℕ) → word < 2 ^ 63 → word ≡ wordSize word
+unfolding wordSize
+size-low word h = rw (lt-ltb word (2 ^ 63) h)
 
-pub size-high : (z : ℤ) (w : ℕ) → natAbs z < 2 ^ 63 → w ≡ wordOf z → 2 ^ 63 ≤ w → (2 ^ 64 - 1) - w + 1 ≡ natAbs z
-unfolding wordOf floorRemainder
-size-high (pos n) w s e h = let m : n < 2 ^ 64 = omega arith in absurd (omega (arith, mod-eq-of-lt m))
-size-high (negsuc n) w s e h = let m : n < 2 ^ 64 = omega arith in omega (arith, mod-eq-of-lt m)
+pub size-high : (word : ℕ) → 2 ^ 63 ≤ word → word < 2 ^ 64 → (2 ^ 64 - 1) - word + 1 ≡ wordSize word
+unfolding wordSize
+size-high word h k = rw (le-ltb word (2 ^ 63) h) (omega arith)
 
-pub pos-of : (n : ℕ) → (n ≡ 0 → ⊥) → 0 < n
-pos-of zero h = absurd (h refl)
-pos-of (suc n) h = omega arith
+-- a word's size is that of the integer that it stands for
+size-of-word : (z : ℤ) → natAbs z < 2 ^ 63 → wordSize (wordOf z) ≡ natAbs z
+unfolding wordSize wordOf floorRemainder
+size-of-word (pos n) s =
+    let m : n % 2 ^ 64 ≡ n = mod-eq-of-lt (omega arith) in
+    rw m (rw (lt-ltb n (2 ^ 63) (omega arith)))
+size-of-word (negsuc n) s =
+    let m : n % 2 ^ 64 ≡ n = mod-eq-of-lt (omega arith) in
+    rw (le-ltb (2 ^ 64 - suc (n % 2 ^ 64)) (2 ^ 63) (omega arith)) (omega arith)
 
 -- ---- unevenness
 
-even-on : (s : ℕ) (ps : List ℤ) (m : ℕ) → natAbs (getD ps m (pos zero)) % s ≡ 0 → someUneven s (drop m ps) ≡ someUneven s (drop (suc m) ps)
+even-on : (s : ℕ) (ps : List ℤ) (m : ℕ) → not (divides s (getD ps m (pos zero))) ≡ false → someUneven s (drop m ps) ≡ someUneven s (drop (suc m) ps)
 unfolding someUneven
 even-on s [] zero e = refl
 even-on s [] (suc m) e = refl
-even-on s (p ∷ ps) zero e = ap (λ (c : Bool). not c || someUneven s ps) (eq-eqb (natAbs p % s) 0 e)
+even-on s (p ∷ ps) zero e = ap (λ (c : Bool). c || someUneven s ps) e
 even-on s (p ∷ ps) (suc m) e = even-on s ps m e
 
-odd-stops : (s : ℕ) (ps : List ℤ) (m : ℕ) → (natAbs (getD ps m (pos zero)) % s ≡ 0 → ⊥) → true ≡ someUneven s (drop m ps)
+zero-even : (s : ℕ) → not (divides s (pos zero)) ≡ true → ⊥
+zero-even s e = true-is-not-false (sym e ∙ ap not (eq-eqb (0 % s) 0 (zero-mod s)))
+
+odd-stops : (s : ℕ) (ps : List ℤ) (m : ℕ) → not (divides s (getD ps m (pos zero))) ≡ true → true ≡ someUneven s (drop m ps)
 unfolding someUneven
-odd-stops s [] zero n = absurd (n (zero-mod s))
-odd-stops s [] (suc m) n = absurd (n (zero-mod s))
-odd-stops s (p ∷ ps) zero n = sym (ap (λ (c : Bool). not c || someUneven s ps) (ne-eqb (natAbs p % s) 0 n))
-odd-stops s (p ∷ ps) (suc m) n = odd-stops s ps m n
+odd-stops s [] zero e = absurd (zero-even s e)
+odd-stops s [] (suc m) e = absurd (zero-even s e)
+odd-stops s (p ∷ ps) zero e = sym (ap (λ (c : Bool). c || someUneven s ps) e)
+odd-stops s (p ∷ ps) (suc m) e = odd-stops s ps m e
 
 module _ {differences facts : List ℕ} {j : ℕ} {f : LoopFacts} (known : KnownFacts differences facts j f) where
-  -- the push of the loop with m loops around it, by its stored size
-  module _ {m word size stride : ℕ} (less : m < indexFactors) (wordIs : word ≡ pushWordAt differences j m)
-      (sizeIs : (z : ℤ) → natAbs z < 2 ^ 63 → word ≡ wordOf z → size ≡ natAbs z) (strideIs : stride ≡ strideAt differences j) where
-    same : size % stride ≡ natAbs (getD (f .pushes) m (pos zero)) % f .stride
-    same = ap₂ _%_ (sizeIs (getD (f .pushes) m (pos zero)) (known .small m) (wordIs ∙ known .pushesAre m less)) (strideIs ∙ known .strideIs)
+  -- the test against the loop with m loops around it
+  pub uneven-at : {m : ℕ} → m < indexFactors → unevenAt differences j m ≡ not (divides (f .stride) (getD (f .pushes) m (pos zero)))
+  unfolding unevenAt
+  uneven-at {m} less =
+      let push : ℤ = getD (f .pushes) m (pos zero) in
+      let sized : wordSize (pushWordAt differences j m) ≡ natAbs push = ap wordSize (known .pushesAre m less) ∙ size-of-word push (known .small m) in
+      ap (λ (c : Bool). cond c false (not (eqb (wordSize (pushWordAt differences j m) % strideAt differences j) 0)))
+      (ne-eqb (strideAt differences j) 0 (λ e. absurd (omega (arith, e, known .strideIs, known .moves))))
+      ∙ ap₂ (λ (a b : ℕ). not (eqb (a % b) 0)) sized (known .strideIs)
 
-    pub uneven-found : (size % stride ≡ 0 → ⊥) → true ≡ someUneven (f .stride) (drop m (f .pushes))
-    uneven-found n = odd-stops (f .stride) (f .pushes) m (λ e. n (same ∙ e))
+  module _ {m : ℕ} (less : m < indexFactors) {uneven : Bool} (unevenIs : uneven ≡ unevenAt differences j m) where
+    pub uneven-found : uneven ≡ true → true ≡ someUneven (f .stride) (drop m (f .pushes))
+    uneven-found e = odd-stops (f .stride) (f .pushes) m (sym (unevenIs ∙ uneven-at less) ∙ e)
 
-    pub uneven-next : size % stride ≡ 0 → someUneven (f .stride) (drop m (f .pushes)) ≡ someUneven (f .stride) (drop (m + 1) (f .pushes))
-    uneven-next e = even-on (f .stride) (f .pushes) m (sym same ∙ e) ∙ ap (λ (n : ℕ). someUneven (f .stride) (drop n (f .pushes))) (sym (add-one m))
+    pub uneven-next : uneven ≡ false → someUneven (f .stride) (drop m (f .pushes)) ≡ someUneven (f .stride) (drop (m + 1) (f .pushes))
+    uneven-next e =
+        even-on (f .stride) (f .pushes) m (sym (unevenIs ∙ uneven-at less) ∙ e) ∙ ap (λ (n : ℕ). someUneven (f .stride) (drop n (f .pushes))) (sym (add-one m))
 
   pub uneven-none : {m : ℕ} → indexFactors ≤ m → false ≡ someUneven (f .stride) (drop m (f .pushes))
   unfolding someUneven
@@ -90,9 +105,7 @@ module _ {differences facts : List ℕ} {j : ℕ} {f : LoopFacts} (known : Known
 
 -- ---- the search over the loops M
 
-pub record Evenly (differences : List ℕ) (j depth stride m : ℕ) : Type 0 where
-  pub strideIs : stride ≡ strideAt differences j
-  pub moves : 0 < stride
+pub record Evenly (differences : List ℕ) (j depth m : ℕ) : Type 0 where
   pub rest : (facts : List ℕ) (f : LoopFacts) → KnownFacts differences facts j f →
       someUneven (f .stride) (drop depth (f .pushes)) ≡ someUneven (f .stride) (drop m (f .pushes))
 

@@ -2,15 +2,25 @@
 use mathlib.Core.List.{List, [], _∷_}
 use mathlib.Core.Bool.{Bool, false, not, cond, _||_}
 use mathlib.Core.Option.{Option, none, some}
-use Prim.Native.Nat.{ℕ, suc, _-_, max, zero}
+use Prim.Native.Nat.{ℕ, suc, _-_, _%_, _^_, max, zero}
 use lib.IntN.{ℤ}
-use lib.Dec.{ltb}
+use lib.Dec.{ltb, eqb}
 use lib.ListN.{take, drop}
 use Rattle.whole.specs.Integer.{divides}
 use Rattle.meaning.specs.Record.{Record}
 use Rattle.meaning.specs.Closed.{LoopClass, closedClass, walkedClass}
+use Rattle.layout.specs.Loops.{strideAt, pushWordAt}
 use Rattle.nest.specs.Walk.{recordsInside}
 use Rattle.loops.specs.Facts.{LoopFacts}
+
+-- the size of the integer that a word stands for
+unfoldable pub wordSize : ℕ → ℕ
+wordSize word = cond (ltb word (2 ^ 63)) word (2 ^ 64 - word)
+
+-- by the words of loop j: its stride does not divide the push of the loop that has m loops around it
+unfoldable pub unevenAt : List ℕ → ℕ → ℕ → Bool
+unevenAt differences j m =
+    cond (eqb (strideAt differences j) 0) false (not (eqb (wordSize (pushWordAt differences j m) % strideAt differences j) 0))
 
 -- some of the pushes is not a multiple of the stride; outermost first
 unfoldable pub someUneven : ℕ → List ℤ → Bool

@@ -1,12 +1,12 @@
 -- What the arrays of a plan hold between the walks that fill them.
 use mathlib.Core.Path.{_≡_}
-use mathlib.Core.List.{List}
+use mathlib.Core.List.{List, _∷_, _++_}
 use mathlib.Core.Option.{Option, none, some}
 use Prim.Native.Nat.{ℕ, zero, _^_, _<_, _≤_}
 use lib.IntN.{ℤ, pos, natAbs}
 use lib.ListN.{length, getD}
 use Rattle.meaning.specs.Limits.{indexFactors}
-use Rattle.meaning.specs.Record.{Record}
+use Rattle.meaning.specs.Record.{Loop, Record, loopRecord}
 use Rattle.layout.specs.Rows.{roleNumber, loopRole, roleAt, endAt, depthAt, loopAt}
 use Rattle.layout.specs.Loops.{wordOf, strideAt, pushWordAt, choiceDepthAt, enoughAt}
 use Rattle.layout.specs.Numbers.{storedIn}
@@ -34,16 +34,25 @@ pub record KnownInside (rows differences facts : List ℕ) (n : ℕ) (fs : List 
       (roleAt rows i ≡ roleNumber loopRole) × ((depthAt rows i ≡ f .depth) × KnownFacts differences facts (loopAt rows i) f)
   pub others : (i : ℕ) → n < i → i < length fs → getD fs i none ≡ none → roleAt rows i ≡ roleNumber loopRole → ⊥
 
--- an accepted sheet's rows, and what the parameters make of its loops
+-- arrays hold the rows of these records, and what the parameters make of their loops
+pub record SheetHeld (parameters : List ℤ) (rs : List Record) (rows differences facts : List ℕ) : Type 0 where
+  pub rowsAre : RowsHeld rows rs
+  pub loopsAre : LoopsHeld differences facts (loopsIn (sheetFacts parameters rs))
+
+-- those of an accepted sheet, at small parameters
 pub record Surveyed (sheet : List ℕ) (parameters : List ℤ) (count : ℕ) (rows differences facts : List ℕ) : Type 0 where
   pub small : FourSmall parameters
   pub all : count ≡ length (recordsOf sheet)
-  pub rowsAre : RowsHeld rows (recordsOf sheet)
-  pub loopsAre : LoopsHeld differences facts (loopsIn (sheetFacts parameters (recordsOf sheet)))
+  pub sheetIs : SheetHeld parameters (recordsOf sheet) rows differences facts
+
+-- in them loop l is the record with this number, after the records xs and before ys
+pub record LoopAmong (sheet : List ℕ) (parameters : List ℤ) (rows differences facts : List ℕ) (number : ℕ) (xs : List Record) (l : Loop) (ys : List Record) : Type 0 where
+  pub surveyed : Surveyed sheet parameters (length (recordsOf sheet)) rows differences facts
+  pub split : recordsOf sheet ≡ xs ++ (loopRecord l ∷ ys)
+  pub numberIs : number ≡ length xs
 
 -- arrays hold the plan of these records
 pub record PlanHeld (parameters : List ℤ) (rs : List Record) (rows differences facts limits : List ℕ) : Type 0 where
-  pub rowsAre : RowsHeld rows rs
-  pub loopsAre : LoopsHeld differences facts (loopsIn (sheetFacts parameters rs))
+  pub sheetIs : SheetHeld parameters rs rows differences facts
   pub limitsBefore : List ℕ
   pub limitsAre : limits ≡ storedIn limitsBefore (limitsStored (loopsIn (sheetPlans parameters rs)))

@@ -1,17 +1,15 @@
 -- The plan of a sheet at given parameters: what all its stages need, as numbers.
-use mathlib.Core.List.{List, [], _∷_, _++_, map}
-use mathlib.Core.Option.{Option, some, none}
+use mathlib.Core.List.{List, [], map}
+use mathlib.Core.Option.{Option}
 use Prim.Native.Nat.{ℕ}
 use lib.IntN.{ℤ}
 use lib.ListN.{length}
 use Rattle.meaning.specs.Record.{Record}
 use Rattle.meaning.specs.Reader.{Result, ok, refused, andThen}
-use Rattle.meaning.specs.Report.{LoopReport}
 use Rattle.meaning.specs.Answer.{accepted}
-use Rattle.layout.specs.declared.rows.Row.{Row}
 use Rattle.nest.specs.Rows.{rowsStored}
 use Rattle.loops.specs.Facts.{factsStored, loopsIn, sheetFacts, wordsStored}
-use Rattle.planner.specs.Closing.{LoopPlan, classBy, plansFrom}
+use Rattle.planner.specs.Closing.{LoopPlan, plansFrom}
 
 -- the numbers that are stored
 unfoldable pub limitsStored : List LoopPlan → List ℕ
@@ -47,16 +45,3 @@ planOf sheet parameters = andThen (accepted sheet parameters) λ rs. ok (planOfR
 unfoldable pub limitsIn : Result Plan → List ℕ
 limitsIn (ok p) = p .limits
 limitsIn (refused number place) = []
-
--- ---- what a plan reports
-
--- of a loop's row and plan; nothing of another record
-unfoldable pub reportOf : Row → Option LoopPlan → List LoopReport
-reportOf r none = []
-reportOf r (some p) = record { offset = r .offset; class = classBy (p .limit); ceiling = p .facts .ceiling } ∷ []
-
--- in sheet order
-unfoldable pub planReports : List Row → List (Option LoopPlan) → List LoopReport
-planReports [] ps = []
-planReports (r ∷ rs) [] = []
-planReports (r ∷ rs) (p ∷ ps) = reportOf r p ++ planReports rs ps

@@ -3,15 +3,15 @@ ghost use mathlib.Core.Path.{_≡_};
 ghost use mathlib.Core.List.{List};
 ghost use mathlib.Core.Option.{Option};
 ghost use Prim.Native.Nat.{ℕ, _+_, _-_, _^_, _<_, max};
-ghost use lib.IntN.{ℤ, natAbs};
+ghost use lib.IntN.{ℤ};
 ghost use lib.ListN.{take, drop};
 ghost use Rattle.layout.specs.Numbers.{storedIn};
 ghost use Rattle.layout.specs.Rows.{endAt, depthAt};
-ghost use Rattle.layout.specs.Loops.{wordOf};
+ghost use Rattle.meaning.specs.Limits.{indexFactors};
 ghost use Rattle.sheet.specs.Sheets.{recordsOf};
 ghost use Rattle.loops.specs.Facts.{LoopFacts};
 ghost use Rattle.planner.specs.Closing as C;
-ghost use Rattle.planner.specs.Closing.{someUneven, limitAmong};
+ghost use Rattle.planner.specs.Closing.{wordSize, unevenAt, someUneven, limitAmong};
 ghost use Rattle.loops.specs.Facts.{loopsIn};
 ghost use Rattle.planner.specs.Plan.{limitsStored, sheetPlans};
 ghost use Rattle.planner.specs.Known.{KnownFacts, KnownInside, Surveyed};
@@ -34,16 +34,28 @@ use layout::rows::loop_at;
 use layout::rows::role_at;
 
 // How many loops can stand around a loop.
-const MAX_AROUND: usize = INDEX_FACTORS;
+pub(crate) const MAX_AROUND: usize = INDEX_FACTORS;
 
 // The size of the integer that a word stands for.
 fn size_of(word: u64) -> u64
-    ensures { λ r. ⌜ ((z : ℤ) → natAbs z < 2 ^ 63 → word ≡ wordOf z → r ≡ natAbs z) ⌝ }
+    ensures { λ r. ⌜ r ≡ wordSize word ⌝ }
 {
     if word < NEGATIVE {
         return word;
     }
     u64::MAX - word + 1
+}
+
+// Whether the stride of loop K does not divide the push of the loop M around it that has m loops around it.
+pub(crate) fn uneven_in(differences: &Differences, loop_number: usize, m: usize) -> bool
+    requires { ⌜ m < indexFactors ⌝ }
+    ensures { λ r. ⌜ r ≡ unevenAt (now (differences .entry)) «loop_number» m ⌝ }
+{
+    let stride = stride_at(differences, loop_number);
+    if stride == 0 {
+        return false;
+    }
+    size_of(push_at(differences, loop_number, m)) % stride != 0
 }
 
 fn larger(a: usize, b: usize) -> usize
@@ -52,17 +64,13 @@ fn larger(a: usize, b: usize) -> usize
     if a < b { b } else { a }
 }
 
-// Whether the stride of loop K does not divide the push of a loop M around it, from the one with `depth` loops around it inward.
+// The same of some loop M around K, from the one with `depth` loops around it inward.
 fn uneven(differences: &Differences, loop_number: usize, depth: usize) -> bool
     ensures { λ r. ⌜ ((facts : List ℕ) (f : LoopFacts) → KnownFacts (now (differences .entry)) facts «loop_number» f → r ≡ someUneven (f .stride) (drop depth (f .pushes))) ⌝ }
 {
-    let stride = stride_at(differences, loop_number);
-    if stride == 0 {
-        return false;
-    }
     let mut m = depth;
     while m < MAX_AROUND {
-        if size_of(push_at(differences, loop_number, m)) % stride != 0 {
+        if uneven_in(differences, loop_number, m) {
             return true;
         }
         m += 1;

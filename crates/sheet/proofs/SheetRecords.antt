@@ -1,50 +1,27 @@
 -- The records that a sheet is read as: how many, in their place, and where each stands in the sheet.
 use mathlib.Core.List.{_++_, List, [], _∷_}
 use mathlib.Core.Path.{ap, refl, sym, _∙_, _≡_}
-use Prim.Native.Nat.{_*_, _+_, _<_, suc, ℕ, _≤_}
+use Prim.Native.Nat.{_+_, _<_, suc, ℕ, _≤_}
 use native.Mathlib.Numerals.{add-one}
 use native.Mathlib.Omega.{arith}
 use lib.ListN.{drop, getD, length, take}
 use lib.Seq.{split-at, take-suc}
-use Rattle.meaning.specs.Record.{Kind, Record, bodyLength, choiceKind, endKind, endRecord, kind, kindNumber, loopKind, nextArmKind, recordLength, sheetLength, workKind}
+use Rattle.meaning.specs.Record.{Record, endRecord, kind, kindNumber, recordLength, sheetLength}
 use Rattle.meaning.specs.Reader.{Result, ok, read, refused}
 use Rattle.meaning.specs.Limits.{recordLimit}
 use Rattle.meaning.proofs.Accepted.{InPlace, read-in-place, read-short}
 use Rattle.meaning.proofs.RecordReader.{StandsAt, read-stands, recordHead}
 use Rattle.meaning.proofs.RecordBytes.{kindOf-kindNumber}
+pub use Rattle.meaning.proofs.RecordBytes.{sheetLength-append}
 use Rattle.records.specs.View.{lengthOf, lengthOfKind}
 use Rattle.sheet.specs.Sheets.{recordsIn, recordsOf}
 use Rattle.sheet.proofs.Heads.{head-stands}
 
 -- ---- lengths
 
-pub sheetLength-append : (xs ys : List Record) → sheetLength (xs ++ ys) ≡ sheetLength xs + sheetLength ys
-unfolding sheetLength
-sheetLength-append [] ys = omega arith
-sheetLength-append (x ∷ xs) ys = omega (arith, sheetLength-append xs ys)
-
 pub length-one-more : (rs : List Record) (r : Record) → sheetLength (rs ++ (r ∷ [])) ≡ sheetLength rs + recordLength r
 unfolding sheetLength
 length-one-more rs r = sheetLength-append rs (r ∷ []) ∙ (let e : sheetLength rs + (recordLength r + 0) ≡ sheetLength rs + recordLength r = omega arith in e)
-
--- no record is longer than a loop's
-abbrev pub longest : ℕ
-longest = suc (bodyLength loopKind)
-
-pub sheetLength-small : (rs : List Record) → sheetLength rs ≤ length rs * longest
-unfolding sheetLength recordLength bodyLength
-sheetLength-small [] = omega arith
-sheetLength-small (r ∷ rs) = omega (arith, one r, sheetLength-small rs)
-  where
-    one : (r : Record) → recordLength r ≤ longest
-    one r = each (kind r)
-      where
-        each : (k : Kind) → 1 + bodyLength k ≤ longest
-        each workKind = omega arith
-        each loopKind = omega arith
-        each endKind = omega arith
-        each choiceKind = omega arith
-        each nextArmKind = omega arith
 
 -- ---- the records of a sheet
 

@@ -88,8 +88,10 @@ module _ (sheet : List ℕ) (ps : List ℤ) (rs : List Record) (small : SmallPar
     smallMost = figures-small ps (tree rs) (formed .sound) (formed .deep) few-records ceilings;
     facts = arrayOf factsLength (plan .facts);
     held = record {
-      rowsAre = record { before = replicate rowsLength 0; are = refl };
-      loopsAre = record { wordsBefore = replicate differencesLength 0; wordsAre = refl; factsBefore = replicate factsLength 0; factsAre = refl };
+      sheetIs = record {
+        rowsAre = record { before = replicate rowsLength 0; are = refl };
+        loopsAre = record { wordsBefore = replicate differencesLength 0; wordsAre = refl; factsBefore = replicate factsLength 0; factsAre = refl };
+      };
       limitsBefore = replicate loopLimit 0;
       limitsAre = refl;
     };

@@ -21,8 +21,8 @@ use Rattle.meaning.proofs.Trees.{afterEnd-records}
 use Rattle.nest.specs.Walk.{numbersAfter, opensAfter}
 use Rattle.nest.proofs.Places.{in-place-through, loop-body}
 use Rattle.nest.proofs.Walks.{numbers-records, numbersThrough, opens-records, opensThrough, opens-append, numbers-append}
-use Rattle.loops.specs.Enclosing.{enclosingAfter, enter, nothingOpen, Enclosing}
-use Rattle.loops.proofs.Enclosings.{enclosing-records, enclosingThrough, leave-enter, enclosing-append}
+use Rattle.loops.specs.Enclosing.{Enclosing, enclosingAfter, enclosingThrough, enter, nothingOpen}
+use Rattle.loops.proofs.Enclosings.{enclosing-records, leave-enter, enclosing-append}
 use Rattle.stages.proofs.Affine.{enclosingOf}
 
 -- ---- what records leave open

@@ -1,7 +1,7 @@
 -- What a sheet's plan says of each record, by the records before it, and of each loop's trips at the counters of the loops around it.
 use mathlib.Core.List.{_++_, List, [], map, map-append, _∷_}
 use mathlib.Core.Bool.{Bool, cond, false, true}
-use mathlib.Core.Option.{Option, none, some}
+use mathlib.Core.Option.{none}
 use mathlib.Core.Path.{ap, ap₂, refl, subst, sym, _∙_, _≡_}
 use Prim.Native.Nat.{_%_, _*_, _+_, _-_, _/_, _<_, _^_, max, min, suc, zero, ℕ, _≤_}
 use native.Mathlib.Omega.{arith}
@@ -24,27 +24,23 @@ use Rattle.meaning.specs.Form.{value}
 use Rattle.meaning.specs.Visits.{visitedOf}
 use Rattle.meaning.proofs.Accepted.{InPlace}
 use Rattle.meaning.proofs.Trips.{Inside}
-use Rattle.meaning.proofs.Reports.{WithinCeiling, first-over-none, within-append}
+use Rattle.meaning.proofs.Reports.{WithinCeiling, first-over-none}
 use Rattle.meaning.proofs.Ranges.{trips-ceiling}
-use Rattle.layout.specs.declared.rows.Row.{Row}
 use Rattle.layout.specs.Rows.{afterEndAt, endAt, firstAt, firstCost, frameAt, loopAt, depthAt, openerAt, roleAt, roleNumber, roleOf, secondAt, secondCost}
 use Rattle.layout.specs.Loops.{baseAt, limitAt, pushWordAt, strideAt, wordOf}
 use Rattle.nest.specs.Known.{RowsHeld}
-use Rattle.nest.specs.Rows.{endNumber, innermost, rowsOf, sheetStart}
+use Rattle.nest.specs.Rows.{endNumber, innermost}
 use Rattle.nest.proofs.RowsRead.{enclosing-reads, end-reads, first-reads, frame-reads, depth-reads, role-reads, second-reads}
 use Rattle.nest.proofs.Places.{in-place-through, loop-in-place}
 use Rattle.nest.proofs.Walks.{opensThrough}
-use Rattle.nest.proofs.RowsOf.{rows-length}
-use Rattle.loops.specs.Enclosing.{enter, nothingOpen, Enclosing}
-use Rattle.loops.specs.Facts.{loopFacts}
+use Rattle.loops.specs.Enclosing.{Enclosing, enter, loopsAround, nothingOpen}
 use Rattle.loops.proofs.Sizes.{SmallLoop, SmallParameters, difference-value-small, loop-small-at}
-use Rattle.loops.proofs.Enclosings.{loopsAround, nothing-open, open-loops-through}
-use Rattle.planner.specs.Closing.{limitOf, LoopPlan}
+use Rattle.loops.proofs.Enclosings.{nothing-open, open-loops-through}
+use Rattle.planner.specs.Closing.{limitOf}
 use Rattle.planner.specs.Known.{PlanHeld}
-use Rattle.planner.specs.Plan.{planReports, reportOf, sheetPlans}
-use Rattle.planner.proofs.PlansOf.{definedPlan, limit-below, loop-plan, plans-length}
+use Rattle.planner.proofs.PlansOf.{definedPlan, limit-below}
 use Rattle.planner.proofs.PlanRead.{plan-base, plan-limit, plan-push, plan-stride}
-use Rattle.planner.proofs.PlanReports.{plan-reports}
+use Rattle.planner.proofs.PlanReports.{ceiling-within, reportsFrom, sheet-reports}
 use Rattle.state.specs.Open.{counterPart, filled, partLength}
 use Rattle.trips.specs.Trips.{differenceWord, limitWithin, tripsAt, tripsOver, visitedBy}
 use Rattle.state.proofs.Innermost.{filled-at}
@@ -63,20 +59,6 @@ unfolding opensOf loopDepth counterNumbers
 loops-count [] = refl
 loops-count (loopFrame l body counter sums enclosing ∷ fs) = let i = loops-count fs in omega (arith, length-append (counterNumbers fs) (counter ∷ []))
 loops-count (choiceFrame passed enclosing ∷ fs) = loops-count fs
-
--- a loop's ceiling, where no report is above the limit
-ceiling-within : (rows : List Row) (plans : List (Option LoopPlan)) (n : ℕ) (p : LoopPlan) → WithinCeiling (planReports rows plans) → n < length rows → n < length plans →
-    getD plans n none ≡ some p → p .facts .ceiling ≤ ceilingLimit
-unfolding planReports WithinCeiling
-ceiling-within [] plans n p w h i e = absurd (omega arith)
-ceiling-within (r ∷ rows) [] n p w h i e = absurd (omega arith)
-ceiling-within (r ∷ rows) (x ∷ plans) zero p w h i e =
-    first (subst (λ o. WithinCeiling (reportOf r o)) e (within-append (reportOf r x) (planReports rows plans) w .0))
-  where
-    first : WithinCeiling (reportOf r (some p)) → p .facts .ceiling ≤ ceilingLimit
-    first g = unfold reportOf in g .0
-ceiling-within (r ∷ rows) (x ∷ plans) (suc n) p w h i e =
-    ceiling-within rows plans n p (within-append (reportOf r x) (planReports rows plans) w .1) (omega arith) (omega arith) e
 
 -- what is known of a sheet that is not refused 1 to 6, at parameters of 16 bits, and of the arrays that hold its plan
 pub record KnownPlan (ps : List ℤ) (rs : List Record) (rows differences limits : List ℕ) : Type 0 where
@@ -108,7 +90,7 @@ module _ {ps : List ℤ} {rs : List Record} {rows differences limits : List ℕ}
     stands-below = omega (arith, h .number, ap (λ (xs : List Record). length xs) (h .split), length-append (h .outer) (r ∷ ys))
 
     rows-here : RowsHeld rows (h .outer ++ (r ∷ ys))
-    rows-here = subst (RowsHeld rows) (h .split) (known .held .rowsAre)
+    rows-here = subst (RowsHeld rows) (h .split) (known .held .sheetIs .rowsAre)
 
     few-here : length (h .outer ++ (r ∷ ys)) ≤ recordLimit
     few-here = subst (λ (xs : List Record). length xs ≤ recordLimit) (h .split) (known .short)
@@ -195,15 +177,12 @@ module _ {ps : List ℤ} {rs : List Record} {rows differences limits : List ℕ}
         omega (arith, difference-value-small ps l (enclosingOf ps fs) (indexesOf ps fs) sized inner-ranges)
 
     made-few : trips ps l (indexesOf ps fs) ≤ ceilingLimit
-    unfolding definedPlan loopFacts rowsOf
     made-few =
-        let all : WithinCeiling (planReports (rowsOf rs) (sheetPlans ps rs)) =
-        subst WithinCeiling (sym (plan-reports ps rs (known .placed))) (first-over-none (sheetReports ps rs) .0 (known .within)) in
-        let plan : LoopPlan = definedPlan ps l body (opensThrough [] (h .outer)) (loopsAround ps (h .outer)) in
-        let found : getD (sheetPlans ps rs) n none ≡ some plan =
-        ap₂ (λ (x : List Record) (m : ℕ). getD (sheetPlans ps x) m none) (h .split) (sym (h .number)) ∙ loop-plan ps (h .outer) l body sheetInPlace in
-        let own = ceiling-within (rowsOf rs) (sheetPlans ps rs) n plan all (omega (arith, stands-below h, rows-length rs sheetStart)) (omega (arith, stands-below h, plans-length ps rs)) found in
-        let same : plan .facts .ceiling ≡ ceiling ps l (rangesOf ps fs) = ap (λ (x : Enclosing). ceiling ps l (x .ranges)) (h .leaves .loopsAre) ∙ ap (ceiling ps l) (enclosing-ranges ps fs) in
+        let all : WithinCeiling (reportsFrom ps 0 [] nothingOpen rs) =
+        subst WithinCeiling (sym (sheet-reports ps rs (known .placed))) (first-over-none (sheetReports ps rs) .0 (known .within)) in
+        let own = ceiling-within ps (h .outer) l body 0 [] nothingOpen (subst (λ (x : List Record). WithinCeiling (reportsFrom ps 0 [] nothingOpen x)) (h .split) all) in
+        let same : ceiling ps l (loopsAround ps (h .outer) .ranges) ≡ ceiling ps l (rangesOf ps fs) =
+        ap (λ (x : Enclosing). ceiling ps l (x .ranges)) (h .leaves .loopsAre) ∙ ap (ceiling ps l) (enclosing-ranges ps fs) in
         omega (arith, own, same, trips-ceiling ps l (rangesOf ps fs) (indexesOf ps fs) inside)
 
     number-at : loopAt rows n ≡ loopAt rows (length (h .outer))

@@ -9,11 +9,12 @@ ghost use lib.ListN.{length, take, drop, replicate};
 ghost use Rattle.meaning.specs.Limits.{inputLimit};
 ghost use Rattle.meaning.specs.Reader.{read};
 ghost use Rattle.meaning.specs.Answer.{answer};
-ghost use Rattle.meaning.specs.Program.{answerText, inputBudget, programText, reportsOf};
+ghost use Rattle.meaning.specs.Program.{answerText, inputBudget, inputParameters, inputSheet, programText, reportsOf};
+ghost use Rattle.meaning.specs.ReasonsTold.{ReasonsTold};
 ghost use Rattle.encoding.specs.Append.{Appended};
 ghost use Rattle.text.specs.Limits.{textLimit};
 use crate::lines::FIGURES_LINE_LENGTH;
-use crate::lines::LOOP_LINE_LENGTH;
+use crate::lines::REPORT_LENGTH;
 use crate::lines::put_figures_line;
 use crate::lines::put_refusal_line;
 use crate::loop_lines::put_loops;
@@ -22,7 +23,7 @@ use encoding::number::unsigned32_at;
 use figures::Answer;
 use figures::cycles;
 use form::Parameters;
-use records::MAX_RECORDS;
+use layout::MAX_LOOPS;
 use records::MAX_SHEET_LENGTH;
 use sheet::refusal::Refusal;
 
@@ -32,8 +33,8 @@ const HEADER_LENGTH: usize = 12;
 // The header, the longest sheet, and a byte of one record more: so many bytes of an input matter.
 pub const INPUT_LENGTH: usize = HEADER_LENGTH + MAX_SHEET_LENGTH + 1;
 
-// The longest figures line, and for each record the longest line of a loop.
-pub const TEXT_LENGTH: usize = FIGURES_LINE_LENGTH + MAX_RECORDS * LOOP_LINE_LENGTH;
+// The longest figures line, and for each loop its longest lines.
+pub const TEXT_LENGTH: usize = FIGURES_LINE_LENGTH + MAX_LOOPS * REPORT_LENGTH;
 
 pub type Text = [u8; TEXT_LENGTH];
 
@@ -51,7 +52,7 @@ fn budget_of(input: &[u8]) -> u32
     unsigned32_at(input, 8)
 }
 
-// The figures and a line a loop, or the refusal, at the buffer's start.
+// The figures and the lines of each loop, or the refusal, at the buffer's start.
 fn put_answer(sheet: &[u8], parameters: Parameters, budget: u32, buffer: &mut [u8]) -> usize
     requires { ⌜ textLimit ≤ length (now buffer) ⌝ }
     ensures { λ r. ⌜ Appended (now (buffer .entry)) 0
@@ -72,6 +73,7 @@ pub fn program_text(input: &[u8], buffer: &mut Text) -> usize
     ensures length { λ r. ⌜ r ≡ length (programText (now (input .entry))) ⌝ }
     ensures bytes { λ _. ⌜ now (buffer .exit) ≡ programText (now (input .entry)) ++ drop (length (programText (now (input .entry)))) (now (buffer .entry)) ⌝ }
     ensures fits { λ r. ⌜ (r ≤ textLimit) × (length (now (buffer .exit)) ≡ textLimit) ⌝ }
+    ensures reasons { λ _. ⌜ ReasonsTold (inputParameters (now (input .entry))) (read (inputSheet (now (input .entry)))) ⌝ }
     ensures cut { λ _. ⌜ programText (now (input .entry)) ≡ programText (take inputLimit (now (input .entry))) ⌝ }
 {
     if input.len() < HEADER_LENGTH {

@@ -1,14 +1,14 @@
-// A line for each loop of a sheet, in sheet order, from its plan.
+// The lines of each loop of a sheet, in sheet order, from its plan.
 ghost use Prim.Native.Nat.{_+_, _*_, _≤_};
 ghost use lib.ListN.{length};
-ghost use Rattle.meaning.specs.Limits.{recordLimit};
 ghost use Rattle.meaning.specs.Answer.{accepted};
 ghost use Rattle.meaning.specs.Program.{loopLines, reportsOf};
+ghost use Rattle.layout.specs.Loops.{loopLimit};
 ghost use Rattle.planner.specs.Reports.{reportAt};
 ghost use Rattle.encoding.specs.Append.{Appended};
-ghost use Rattle.text.specs.Limits.{loopLineLimit};
+ghost use Rattle.text.specs.Limits.{reportLimit};
 ghost use Rattle.text.specs.Reports.{reportsBefore};
-use crate::lines::put_loop_line;
+use crate::lines::put_report;
 use form::Parameters;
 use layout::MAX_LOOPS;
 use layout::differences::DIFFERENCE_WORDS;
@@ -23,44 +23,46 @@ use planner::plan;
 use planner::report::Report;
 use planner::report::report_of;
 
-// The line of the record with this number; none for a record that is no loop.
-fn put_record_line(
+// The lines of the record with this number; none for a record that is no loop.
+fn put_record_lines(
     rows: &Rows,
+    differences: &Differences,
     facts: &Facts,
     limits: &Limits,
     number: usize,
     buffer: &mut [u8],
     at: usize,
 ) -> usize
-    requires { ⌜ at + loopLineLimit ≤ length (now buffer) ⌝ }
+    requires { ⌜ at + reportLimit * length (reportAt (now rows) (now differences) (now facts) (now limits) number) ≤ length (now buffer) ⌝ }
     ensures appended { λ r. ⌜ Appended (now (buffer .entry)) at
-        (loopLines (reportAt (now (rows .entry)) (now (facts .entry)) (now (limits .entry)) number)) (now (buffer .exit)) r ⌝ }
-    ensures short { λ r. ⌜ r ≤ at + loopLineLimit ⌝ }
+        (loopLines (reportAt (now (rows .entry)) (now (differences .entry)) (now (facts .entry)) (now (limits .entry)) number)) (now (buffer .exit)) r ⌝ }
+    ensures short { λ r. ⌜ r ≤ at
+        + reportLimit * length (reportAt (now (rows .entry)) (now (differences .entry)) (now (facts .entry)) (now (limits .entry)) number) ⌝ }
 {
-    let report = report_of(rows, facts, limits, number);
+    let report = report_of(rows, differences, facts, limits, number);
     match report {
-        Report::OfLoop(l) => put_loop_line(buffer, at, l),
+        Report::OfLoop(l) => put_report(buffer, at, l),
         Report::Nothing => at,
     }
 }
 
 fn put_loop_lines(
     rows: &Rows,
+    differences: &Differences,
     facts: &Facts,
     limits: &Limits,
     count: usize,
     buffer: &mut [u8],
     start: usize,
 ) -> usize
-    requires { ⌜ start + loopLineLimit * count ≤ length (now buffer) ⌝ }
-    ensures appended { λ r. ⌜ Appended (now (buffer .entry)) start
-        (loopLines (reportsBefore (now (rows .entry)) (now (facts .entry)) (now (limits .entry)) count)) (now (buffer .exit)) r ⌝ }
-    ensures short { λ r. ⌜ r ≤ start + loopLineLimit * count ⌝ }
+    requires { ⌜ start + reportLimit * length (reportsBefore (now rows) (now differences) (now facts) (now limits) count) ≤ length (now buffer) ⌝ }
+    ensures { λ r. ⌜ Appended (now (buffer .entry)) start
+        (loopLines (reportsBefore (now (rows .entry)) (now (differences .entry)) (now (facts .entry)) (now (limits .entry)) count)) (now (buffer .exit)) r ⌝ }
 {
     let mut at = start;
     let mut number: usize = 0;
     while number < count {
-        at = put_record_line(rows, facts, limits, number, buffer, at);
+        at = put_record_lines(rows, differences, facts, limits, number, buffer, at);
         number += 1;
     }
     at
@@ -68,7 +70,7 @@ fn put_loop_lines(
 
 // The lines of a sheet that is not refused 1 to 6; none of another.
 pub(crate) fn put_loops(sheet: &[u8], parameters: Parameters, buffer: &mut [u8], at: usize) -> usize
-    requires { ⌜ at + loopLineLimit * recordLimit ≤ length (now buffer) ⌝ }
+    requires { ⌜ at + reportLimit * loopLimit ≤ length (now buffer) ⌝ }
     ensures { λ r. ⌜ Appended (now (buffer .entry)) at (loopLines (reportsOf parameters (accepted (now (sheet .entry)) parameters))) (now (buffer .exit)) r ⌝ }
 {
     let mut rows: Rows = [0; ROW_NUMBERS];
@@ -84,7 +86,15 @@ pub(crate) fn put_loops(sheet: &[u8], parameters: Parameters, buffer: &mut [u8],
         &mut limits,
     );
     match planned {
-        PlanAnswer::Count(count) => put_loop_lines(&rows, &facts, &limits, count, buffer, at),
+        PlanAnswer::Count(count) => put_loop_lines(
+            &rows,
+            &differences,
+            &facts,
+            &limits,
+            count,
+            buffer,
+            at,
+        ),
         PlanAnswer::Refused(_) => at,
     }
 }

@@ -25,6 +25,8 @@ pub(crate) const STAGES: u8 = 5;
 
 pub(crate) const TEXTS: u8 = 6;
 
+pub(crate) const LINES: u8 = 7;
+
 // How many bytes an entry takes that has the fields of a record.
 pub(crate) const ENTRY: usize = 29;
 

@@ -3,6 +3,7 @@ use crate::calls::calls_agree;
 use crate::cases::CALLS;
 use crate::cases::Case;
 use crate::cases::ENTRY;
+use crate::cases::LINES;
 use crate::cases::PLAN;
 use crate::cases::READER;
 use crate::cases::STAGES;
@@ -10,6 +11,7 @@ use crate::cases::TEXTS;
 use crate::cases::WRITER;
 use crate::cases::entries_length;
 use crate::cases::record_in;
+use crate::lines::line_agrees;
 use crate::plans::plan_agrees;
 use crate::states::stages_agree;
 use crate::texts::text_agrees;
@@ -176,6 +178,7 @@ pub(crate) fn agrees(case: Case, sheets: &[u8], entries: &[u8]) -> bool {
         CALLS => calls_agree(case, sheet, own),
         STAGES => stages_agree(case, sheet, own),
         TEXTS => text_agrees(case, sheet, own),
+        LINES => line_agrees(case, sheet),
         _ => false,
     }
 }

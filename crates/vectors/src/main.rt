@@ -1,13 +1,15 @@
-// Runs the stored cases of the reader, the writer, the plan, the calls, the stage and the texts, and says how many there are and
-// how many differ.
+// Runs the stored cases of the reader, the writer, the plan, the calls, the stage, the texts and the reasons' lines, and says how
+// many there are and how many differ.
 mod calls;
 mod cases;
 mod compare;
+mod lines;
 mod numbers;
 mod plans;
 mod states;
 mod texts;
 
+use crate::cases::LINES;
 use crate::cases::PLAN;
 use crate::cases::READER;
 use crate::cases::STAGES;
@@ -17,6 +19,7 @@ use crate::cases::case_of;
 use crate::cases::entries_length;
 use crate::compare::agrees;
 use libc::STDOUT_FILENO;
+use text::TEXT_LENGTH;
 
 // Cases met so far, and how many of them came out otherwise than reckoned.
 struct Tally {
@@ -26,6 +29,7 @@ struct Tally {
     calls: u64,
     stagings: u64,
     texts: u64,
+    lines: u64,
     differing: u64,
     more: bool,
 }
@@ -49,6 +53,9 @@ fn counted(tally: Tally, which: u8, agrees: bool) -> Tally {
         TEXTS => {
             next.texts = std::num::wrapping_add_u64(next.texts, 1);
         }
+        LINES => {
+            next.lines = std::num::wrapping_add_u64(next.lines, 1);
+        }
         _ => {
             next.calls = std::num::wrapping_add_u64(next.calls, 1);
         }
@@ -67,7 +74,7 @@ fn filled(fd: i32, space: &mut [u8], length: usize) -> bool {
     io::read_full(fd, &mut space[..length]) == length
 }
 
-// The next case of the file, or no more.
+// The next case of the file, or no more. What follows a sheet has the room of the longest text.
 fn run_case(fd: i32, tally: Tally) -> Tally {
     let mut last = tally;
     last.more = false;
@@ -80,7 +87,7 @@ fn run_case(fd: i32, tally: Tally) -> Tally {
     let length = case.sheet;
     let entries_length = entries_length(case);
     let mut sheet: [u8; 4096] = [0; 4096];
-    let mut entries: [u8; 4096] = [0; 4096];
+    let mut entries: [u8; TEXT_LENGTH] = [0; TEXT_LENGTH];
     if !filled(fd, &mut sheet, length) || !filled(fd, &mut entries, entries_length) {
         return counted(last, which, false);
     }
@@ -129,6 +136,7 @@ fn main() {
         calls: 0,
         stagings: 0,
         texts: 0,
+        lines: 0,
         differing: 0,
         more: true,
     };
@@ -136,12 +144,14 @@ fn main() {
     let loops = run_file(b"loops", sheets);
     let figures = run_file(b"figures", loops);
     let stages = run_file(b"stages", figures);
-    let tally = run_file(b"texts", stages);
+    let texts = run_file(b"texts", stages);
+    let tally = run_file(b"reasons", texts);
     print_line(b"sheets read: ", tally.readings);
     print_line(b"sheets written: ", tally.writings);
     print_line(b"plans made: ", tally.plans);
     print_line(b"figures answered: ", tally.calls);
     print_line(b"sheets gone through stage by stage: ", tally.stagings);
     print_line(b"texts stored: ", tally.texts);
+    print_line(b"lines read back: ", tally.lines);
     print_line(b"otherwise than reckoned: ", tally.differing);
 }

@@ -1,5 +1,6 @@
 // Whether the plan of a sheet has the loops' lines, or the refusal, as reckoned.
 use crate::cases::Case;
+use crate::lines::stored_reason;
 use crate::numbers::PARAMETERS;
 use crate::numbers::parameters_in;
 use encoding::number::byte_at;
@@ -18,10 +19,11 @@ use planner::report::Class;
 use planner::report::LoopReport;
 use planner::report::Report;
 use planner::report::report_of;
+use reasons::Found;
 use records::MAX_RECORDS;
 
-// How many bytes a loop's line takes.
-pub(crate) const LINE: usize = 5;
+// How many bytes a loop's line takes: its offset, closed or walked, its ceiling, and why it is walked.
+pub(crate) const LINE: usize = 10;
 
 // The number that a stored line has for a class.
 fn class_number(class: Class) -> u8 {
@@ -31,16 +33,32 @@ fn class_number(class: Class) -> u8 {
     }
 }
 
-// The offset after a loop's line in the given numbers (its offset, closed or walked, ceiling); 0 where the line is another.
+fn same_reason(found: Found, line: &[u8]) -> bool {
+    let reason = stored_reason(found);
+    let sort = reason.sort == byte_at(line, 5);
+    let first = reason.first == unsigned16_at(line, 6);
+    let second = reason.second == unsigned16_at(line, 8);
+    sort && first && second
+}
+
+fn same_line(report: LoopReport, line: &[u8]) -> bool {
+    let offset = report.offset == unsigned16_at(line, 0) as u64;
+    let class = report.class;
+    let class = class_number(class) == byte_at(line, 2);
+    let ceiling = report.ceiling == unsigned16_at(line, 3) as u64;
+    let reason = report.reason;
+    offset && class && ceiling && same_reason(reason, line)
+}
+
+// The offset after a loop's line in the given numbers; 0 where the line is another.
 fn after_line(report: LoopReport, given: &[u8], at: usize) -> usize {
-    if given.len() <= at || given.len() - at < LINE {
+    if given.len() <= at {
         return 0;
     }
-    let offset = report.offset == unsigned16_at(given, at) as u64;
-    let class = report.class;
-    let class = class_number(class) == byte_at(given, at + 2);
-    let ceiling = report.ceiling == unsigned16_at(given, at + 3) as u64;
-    if offset && class && ceiling {
+    if given.len() - at < LINE {
+        return 0;
+    }
+    if same_line(report, &given[at..at + LINE]) {
         at + LINE
     } else {
         0
@@ -56,11 +74,17 @@ fn after_report(report: Report, given: &[u8], at: usize) -> usize {
 }
 
 // Whether the plan's loops have just the lines that follow the parameters.
-fn same_lines(rows: &Rows, facts: &Facts, limits: &Limits, given: &[u8]) -> bool {
+fn same_lines(
+    rows: &Rows,
+    differences: &Differences,
+    facts: &Facts,
+    limits: &Limits,
+    given: &[u8],
+) -> bool {
     let mut at = PARAMETERS;
     let mut number: usize = 0;
     while number < MAX_RECORDS {
-        let report = report_of(rows, facts, limits, number);
+        let report = report_of(rows, differences, facts, limits, number);
         at = after_report(report, given, at);
         if at == 0 {
             return false;
@@ -87,7 +111,7 @@ pub(crate) fn plan_agrees(case: Case, sheet: &[u8], given: &[u8]) -> bool {
     match answer {
         PlanAnswer::Count(n) => case.number == 0
             && n == case.value
-            && same_lines(&rows, &facts, &limits, given),
+            && same_lines(&rows, &differences, &facts, &limits, given),
         PlanAnswer::Refused(r) => r.number == (case.number as u32) && r.offset == case.value,
     }
 }

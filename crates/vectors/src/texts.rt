@@ -4,6 +4,7 @@ use crate::compare::same_bytes;
 use crate::compare::still_filled;
 use crate::numbers::unsigned64_at;
 use exports::pumdalin_text;
+use text::TEXT_LENGTH;
 
 // The text call on the first bytes of two spaces.
 fn text_into(
@@ -24,7 +25,7 @@ fn text_into(
 
 // The text and its length at the start of the two spaces, and every other byte as it was; a refusal leaves all of them.
 pub(crate) fn text_agrees(case: Case, input: &[u8], text: &[u8]) -> bool {
-    let mut space: [u8; 4096] = [167; 4096];
+    let mut space: [u8; TEXT_LENGTH] = [167; TEXT_LENGTH];
     let mut area: [u8; 32] = [167; 32];
     let number = text_into(input, &mut space, case.buffer, &mut area, case.count);
     if number != (case.number as u32) {

@@ -105,12 +105,14 @@ returns-3 c =
     record {
       small = four-of parameters _ (start known .good .1 .0);
       all = all-read known .1;
-      rowsAre = record { before = given .rows .now; are = laid .lay-rows .ensures };
-      loopsAre = record {
-        wordsBefore = given .differences .now;
-        wordsAre = found .1 .0 ∙ ap (λ (l : List LoopFacts). storedIn (given .differences .now) (wordsStored l)) within;
-        factsBefore = given .facts .now;
-        factsAre = found .1 .1 ∙ ap (λ (l : List LoopFacts). storedIn (given .facts .now) (factsStored l)) within;
+      sheetIs = record {
+        rowsAre = record { before = given .rows .now; are = laid .lay-rows .ensures };
+        loopsAre = record {
+          wordsBefore = given .differences .now;
+          wordsAre = found .1 .0 ∙ ap (λ (l : List LoopFacts). storedIn (given .differences .now) (wordsStored l)) within;
+          factsBefore = given .facts .now;
+          factsAre = found .1 .1 ∙ ap (λ (l : List LoopFacts). storedIn (given .facts .now) (factsStored l)) within;
+        };
       };
     } in
     let answers =

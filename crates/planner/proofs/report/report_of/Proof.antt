@@ -10,7 +10,7 @@ role-at-requires c κs = search needs
 returns : tie.Need-returns
 returns c =
     let given = c .before .before .args in
-    report-none (given .rows .now) (given .facts .now) (given .limits .now) (given .number) (c .before .role-at .ensures) (c .if1 .taken)
+    report-none (given .rows .now) (given .differences .now) (given .facts .now) (given .limits .now) (given .number) (c .before .role-at .ensures) (c .if1 .taken)
 
 loop-at-requires : tie.Need-loop-at-requires
 loop-at-requires c κs = search needs
@@ -21,6 +21,9 @@ limit-at-requires c κs = search needs
 class-by-requires : tie.Need-class-by-requires
 class-by-requires c κs = search needs
 
+reason-by-requires : tie.Need-reason-by-requires
+reason-by-requires c κs = search needs
+
 offset-at-requires : tie.Need-offset-at-requires
 offset-at-requires c κs = search needs
 
@@ -29,12 +32,12 @@ ceiling-at-requires c κs = search needs
 
 returns-2 : tie.Need-returns-2
 returns-2 c =
-    let of-loop = c .before .before .before .before in
+    let of-loop = c .before .before .before .before .before in
     let role = of-loop .before .before in
     let given = role .before .args in
-    report-loop (given .rows .now) (given .facts .now) (given .limits .now) (given .number) (role .role-at .ensures) (of-loop .before .if1 .left)
-    (of-loop .loop-at .ensures) (c .before .offset-at .ensures) (c .before .before .before .limit-at .ensures) (c .before .before .class-by .ensures)
-    (c .ceiling-at .ensures)
+    report-loop (given .rows .now) (given .differences .now) (given .facts .now) (given .limits .now) (given .number) (role .role-at .ensures)
+    (of-loop .before .if1 .left) (of-loop .loop-at .ensures) (c .before .offset-at .ensures) (c .before .before .before .before .limit-at .ensures)
+    (c .before .before .before .class-by .ensures) (c .ceiling-at .ensures) (c .before .before .reason-by .ensures)
 
 pub report-of-spec : {M : Type 1} → statement M
 report-of-spec =
@@ -45,6 +48,7 @@ report-of-spec =
     loop-at-requires
     limit-at-requires
     class-by-requires
+    reason-by-requires
     offset-at-requires
     ceiling-at-requires
     returns-2)

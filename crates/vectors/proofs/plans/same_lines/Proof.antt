@@ -6,10 +6,10 @@ use Rattle.vectors.proofs.plans.same_lines.Statement.{statement}
 use Rattle.vectors.proofs.plans.same_lines.Tie as tie
 
 abbrev Inv-loop : tie.InvT-loop
-Inv-loop rows facts limits given at₀ number₀ at number = number ≤ recordLimit
+Inv-loop rows differences facts limits given at₀ number₀ at number = number ≤ recordLimit
 
 abbrev μ-loop : tie.MeasureT-loop
-μ-loop rows facts limits given at₀ number₀ at number = recordLimit - number
+μ-loop rows differences facts limits given at₀ number₀ at number = recordLimit - number
 
 loop-holds : tie.Need-loop-holds Inv-loop μ-loop
 loop-holds c = search needs
