@@ -7,22 +7,7 @@
 #include <pumdalin.h>
 
 #include "guarded.h"
-
-/* Sheets as constants. Two bytes of a number are the low one and the high one; a loop is followed by
- * its lower form and its upper form. */
-#define BYTE(n) (uint8_t)((unsigned)(n) & 0xFF)
-#define TWO_BYTES(n) BYTE(n), BYTE((unsigned)(n) >> 8)
-#define WORK(least, most) 1, TWO_BYTES(least), TWO_BYTES(most)
-#define LOOP(start, step, stride) 2, TWO_BYTES(start), TWO_BYTES(step), TWO_BYTES(stride)
-#define END 3
-#define CHOICE 4
-#define NEXT_ARM 5
-#define FORM(constant, i, j, k, p1) TWO_BYTES(constant), BYTE(i), BYTE(j), BYTE(k), BYTE(p1), 0, 0, 0
-#define CONSTANT(constant) FORM(constant, 0, 0, 0, 0)
-#define INDEX_I(constant) FORM(constant, 1, 0, 0, 0)
-#define INDEX_J(constant) FORM(constant, 0, 1, 0, 0)
-#define PARAMETER_1 FORM(0, 0, 0, 0, 1)
-#define TWICE(...) __VA_ARGS__, __VA_ARGS__
+#include "records.h"
 
 static const uint8_t costs[] = {LOOP(2, 1, 1), CONSTANT(0), CONSTANT(9), WORK(3, 5), END};
 static const uint8_t triangle[] = {
@@ -51,7 +36,12 @@ static const uint8_t loop_in_arm[] = {
 static const uint8_t no_trip[] = {LOOP(0, 0, 3), CONSTANT(0), CONSTANT(-1), WORK(1, 1), END};
 static const uint8_t longest_loop[] = {LOOP(0, 0, 1), CONSTANT(0), CONSTANT(2047), WORK(1, 1), END};
 static const uint8_t too_long_loop[] = {LOOP(0, 0, 1), CONSTANT(0), CONSTANT(2048), WORK(1, 1), END};
-static const uint8_t kind_6[] = {6};
+static const uint8_t skipped[] = {SKIP_LOOP(5, 1, 1), CONSTANT(0), CONSTANT(-1), SKIP(2), WORK(1, 1), END};
+static const uint8_t first_skipped[] = {
+    LOOP(0, 0, 1), CONSTANT(0), CONSTANT(9),
+    SKIP_LOOP(4, 0, 1), CONSTANT(0), INDEX_I(-1), SKIP(1), WORK(1, 1), END, END};
+static const uint8_t too_large_skip[] = {SKIP_LOOP(5, 1, 1), CONSTANT(0), CONSTANT(-1), SKIP(4096), END};
+static const uint8_t kind_7[] = {7};
 static const uint8_t least_above_most[] = {WORK(5, 3)};
 static const uint8_t records_65[] = {TWICE(TWICE(TWICE(TWICE(TWICE(CHOICE, END))))), CHOICE};
 
@@ -82,10 +72,14 @@ static const struct call calls[] = {
     {"a choice of j 0 to i - 1 and work 4", WHOLE(loop_in_arm), 0, 100, AREA, 0, {30, 55, 19}},
     {"i 0 to -1 by 3", WHOLE(no_trip), 0, 100, AREA, 0, {0, 0, 0}},
     {"i 0 to 2,047", WHOLE(longest_loop), 0, 100, AREA, 0, {2048, 2048, 1}},
+    {"start 5, skip 2, i 0 to -1", WHOLE(skipped), 0, 100, AREA, 0, {2, 2, 0}},
+    {"i 0 to 9, j 0 to i - 1 with start 4, skip 1", WHOLE(first_skipped), 0, 100, AREA, 0, {82, 82, 19}},
     {"20 visits, budget 20", WHOLE(uneven), 0, 20, AREA, 0, {30, 30, 20}},
     {"an area of 32 bytes", WHOLE(costs), 0, 100, AREA + 8, 0, {42, 62, 1}},
     {"a loop cut off", triangle, 20, 0, 100, AREA, PUMDALIN_CUT_OFF, {0}},
-    {"kind 6", WHOLE(kind_6), 0, 100, AREA, PUMDALIN_NO_SUCH_KIND, {0}},
+    {"a loop with a skip, cut off", skipped, 26, 0, 100, AREA, PUMDALIN_CUT_OFF, {0}},
+    {"kind 7", WHOLE(kind_7), 0, 100, AREA, PUMDALIN_NO_SUCH_KIND, {0}},
+    {"a skip of 4,096", WHOLE(too_large_skip), 0, 100, AREA, PUMDALIN_FIELD, {0}},
     {"a least above its most", WHOLE(least_above_most), 0, 100, AREA, PUMDALIN_FIELD, {0}},
     {"65 records", WHOLE(records_65), 0, 100, AREA, PUMDALIN_TOO_MANY_RECORDS, {0}},
     {"a loop left open", costs, sizeof costs - 1, 0, 100, AREA, PUMDALIN_NESTING, {0}},

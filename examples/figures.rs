@@ -4,41 +4,12 @@
 //! sheet or area ends the program.
 mod guarded;
 mod pumdalin;
+mod records;
 
 use guarded::{Guarded, ReadOnly, FILL};
 use pumdalin::{figures, figures_in, fill, Figures, AREA_LENGTH};
+use records::{a_loop, constant, form, index_i, nest, parameter_1, skip_loop, work, CHOICE, END, NEXT_ARM};
 use std::process::ExitCode;
-
-const END: [u8; 1] = [3];
-const CHOICE: [u8; 1] = [4];
-const NEXT_ARM: [u8; 1] = [5];
-
-fn work(least: u16, most: u16) -> Vec<u8> {
-    [&[1][..], &least.to_le_bytes(), &most.to_le_bytes()].concat()
-}
-
-/// A form with factors of the indexes i, j and k and of parameter 1.
-fn form(constant: i16, [i, j, k]: [i8; 3], p1: i8) -> Vec<u8> {
-    let factors = [i, j, k, p1, 0, 0, 0].map(|factor| factor as u8);
-    [&constant.to_le_bytes()[..], &factors].concat()
-}
-
-fn constant(value: i16) -> Vec<u8> {
-    form(value, [0; 3], 0)
-}
-
-fn index_i(plus: i16) -> Vec<u8> {
-    form(plus, [1, 0, 0], 0)
-}
-
-fn parameter_1() -> Vec<u8> {
-    form(0, [0; 3], 1)
-}
-
-fn a_loop([start, step, stride]: [u16; 3], lower: Vec<u8>, upper: Vec<u8>) -> Vec<u8> {
-    let costs = [start, step, stride].map(u16::to_le_bytes).concat();
-    [vec![2], costs, lower, upper].concat()
-}
 
 /// A loop without costs that goes up by 1.
 fn plain(lower: Vec<u8>, upper: Vec<u8>) -> Vec<u8> {
@@ -47,11 +18,6 @@ fn plain(lower: Vec<u8>, upper: Vec<u8>) -> Vec<u8> {
 
 fn by_2(lower: Vec<u8>, upper: Vec<u8>) -> Vec<u8> {
     a_loop([0, 0, 2], lower, upper)
-}
-
-/// Loops one in the other, the innermost over this body.
-fn nest(loops: &[Vec<u8>], body: Vec<u8>) -> Vec<u8> {
-    [loops.concat(), body, END.repeat(loops.len())].concat()
 }
 
 struct Call {
@@ -97,6 +63,11 @@ fn loop_in_arm() -> Vec<u8> {
     nest(&[plain(constant(0), constant(9))], choice)
 }
 
+/// A loop that makes no trip.
+fn skipped(skip: u16) -> Vec<u8> {
+    nest(&[skip_loop([5, 1, 1], constant(0), constant(-1), skip)], work(1, 1))
+}
+
 fn up_to(last: i16) -> Vec<u8> {
     nest(&[plain(constant(0), constant(last))], work(1, 1))
 }
@@ -110,6 +81,7 @@ fn answered_calls() -> Vec<Call> {
         plain(index_i(-3), form(7, [0, 1, 0], 0)),
     ];
     let no_trip = [a_loop([0, 0, 3], constant(0), constant(-1))];
+    let first_skipped = [plain(constant(0), constant(9)), skip_loop([4, 0, 1], constant(0), index_i(-1), 1)];
     vec![
         answered("empty sheet", vec![], 0, 0, 0),
         answered("start 2, step 1, i 0 to 9, work 3 to 5", costs(), 42, 62, 1),
@@ -123,6 +95,8 @@ fn answered_calls() -> Vec<Call> {
         answered("a choice of j 0 to i - 1 and work 4", loop_in_arm(), 30, 55, 19),
         answered("i 0 to -1 by 3", nest(&no_trip, work(1, 1)), 0, 0, 0),
         answered("i 0 to 2,047", up_to(2047), 2048, 2048, 1),
+        answered("start 5, skip 2, i 0 to -1", skipped(2), 2, 2, 0),
+        answered("i 0 to 9, j 0 to i - 1 with start 4, skip 1", nest(&first_skipped, work(1, 1)), 82, 82, 19),
         Call { budget: 20, ..answered("20 visits, budget 20", uneven(), 30, 30, 20) },
         Call { area_length: 32, ..answered("an area of 32 bytes", costs(), 42, 62, 1) },
     ]
@@ -133,7 +107,9 @@ fn refused_calls() -> Vec<Call> {
     let records_65 = [[CHOICE, END].concat().repeat(32), CHOICE.to_vec()].concat();
     vec![
         refused("a loop cut off", triangle()[..20].to_vec(), 1),
-        refused("kind 6", vec![6], 2),
+        refused("a loop with a skip, cut off", skipped(2)[..26].to_vec(), 1),
+        refused("kind 7", vec![7], 2),
+        refused("a skip of 4,096", skipped(4096), 3),
         refused("a least above its most", work(5, 3), 3),
         refused("65 records", records_65, 4),
         refused("a loop left open", left_open, 5),

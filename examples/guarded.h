@@ -56,6 +56,18 @@ static struct guarded guarded_read_only_copy(const uint8_t *bytes, size_t length
     return made;
 }
 
+/* Whether these bytes stand at the start of what was lent, and every other byte is as it was. */
+static inline int guarded_holds_only(const struct guarded *lent, const uint8_t *bytes, size_t length)
+{
+    for (const uint8_t *at = lent->page; at < lent->bytes; at++)
+        if (*at != GUARD_FILL)
+            return 0;
+    for (size_t i = length; i < lent->length; i++)
+        if (lent->bytes[i] != GUARD_FILL)
+            return 0;
+    return length == 0 || memcmp(lent->bytes, bytes, length) == 0;
+}
+
 static void guarded_release(const struct guarded *made)
 {
     guarded_demand(munmap(made->page, 2 * made->page_length) == 0, "munmap");

@@ -66,24 +66,12 @@ static void check(int holds, const char *tells)
     bad += holds ? 0 : 1;
 }
 
-/* Whether these bytes stand at the start of what was lent, and every other byte is as it was. */
-static int holds_only(const struct guarded *lent, const uint8_t *bytes, size_t length)
-{
-    for (const uint8_t *at = lent->page; at < lent->bytes; at++)
-        if (*at != GUARD_FILL)
-            return 0;
-    for (size_t i = length; i < lent->length; i++)
-        if (lent->bytes[i] != GUARD_FILL)
-            return 0;
-    return length == 0 || memcmp(lent->bytes, bytes, length) == 0;
-}
-
 static int stored_as_expected(const struct call *call, const struct guarded *text, const struct guarded *area)
 {
     if (call->text == NULL)
-        return holds_only(text, NULL, 0) && holds_only(area, NULL, 0);
+        return guarded_holds_only(text, NULL, 0) && guarded_holds_only(area, NULL, 0);
     uint8_t length[AREA] = {(uint8_t)strlen(call->text)};
-    return holds_only(text, (const uint8_t *)call->text, strlen(call->text)) && holds_only(area, length, AREA);
+    return guarded_holds_only(text, (const uint8_t *)call->text, strlen(call->text)) && guarded_holds_only(area, length, AREA);
 }
 
 static void check_text(const struct call *call)

@@ -1,4 +1,5 @@
-/* Pumdalin: least cycles, most cycles and visits of a sheet, at given parameters. The library is for x86-64.
+/* Pumdalin: least cycles, most cycles and visits of a sheet, at given parameters; and sheets converted between the two kinds of
+ * loops. The library is for x86-64.
  *
  * Of every function below that is not `static inline`: a call returns 0 or a refusal's number. A refusal writes nothing. What
  * is lent as `const` is only read, and nothing past its length; what is written stands at the start of what is lent, and the
@@ -30,17 +31,22 @@ enum pumdalin_refusal {
     PUMDALIN_CEILING = 6,          /* a loop may make more than 2,048 trips at these parameters */
     PUMDALIN_BUDGET = 7,           /* the budget is 0 or above 1,000,000 */
     PUMDALIN_VISITS = 8,           /* the sheet takes more visits than the budget */
-    PUMDALIN_AREA = 9,             /* the answer area is too short */
+    PUMDALIN_AREA = 9,             /* the answer area, or the buffer for a new sheet, is too short */
+    PUMDALIN_SKIP = 10,            /* a loop's skip differs from its start: it has no kind 2 */
     PUMDALIN_TEXT_BUFFER = 12,     /* the buffer is shorter than the text */
     PUMDALIN_PARAMETER = 100       /* a parameter does not fit 16 bits; only pumdalin_figures_checked returns it */
 };
 
 enum {
     PUMDALIN_AREA_LENGTH = 24,       /* bytes of the area that takes figures */
-    PUMDALIN_LENGTH_AREA_LENGTH = 8, /* bytes of the area that takes a text's length */
+    PUMDALIN_LENGTH_AREA_LENGTH = 8, /* bytes of the area that takes the length of a text or of a sheet */
+    PUMDALIN_SHEET_LENGTH = 1728,    /* bytes that hold every sheet: 64 records of at most 27 */
     PUMDALIN_TEXT_LENGTH = 4145,     /* bytes that hold every text of pumdalin_text */
-    PUMDALIN_FIGURES_STACK = 10000,  /* bytes of stack that suffice for pumdalin_figures */
-    PUMDALIN_TEXT_STACK = 20000      /* and for pumdalin_text */
+    /* bytes of stack that suffice for each call */
+    PUMDALIN_FIGURES_STACK = 10000,
+    PUMDALIN_TEXT_STACK = 20000,
+    PUMDALIN_WITH_SKIPS_STACK = 10000,
+    PUMDALIN_WITHOUT_SKIPS_STACK = 10000
 };
 
 /* Stores least, most and visits, 8 bytes each, low byte first, in the first 24 bytes of the area. 9 comes before every other
@@ -59,6 +65,21 @@ uint32_t pumdalin_figures(const uint8_t *sheet, size_t sheet_length,
 uint32_t pumdalin_text(const uint8_t *input, size_t input_length,
                        uint8_t *text, size_t text_length,
                        uint8_t *answer, size_t answer_length);
+
+/* Stores the sheet with each loop of kind 2 made one of kind 6, whose skip is its start; every other record stays as it is.
+ * The new sheet goes into the buffer, its length, 8 bytes, low byte first, into the area. Figures and visits are those of the
+ * old sheet at the same parameters and budget. Refused are, in this order, 1 to 5 for the sheet, and 9 for an area of under 8
+ * bytes or a buffer that is shorter than the new sheet. */
+uint32_t pumdalin_with_skips(const uint8_t *sheet, size_t sheet_length,
+                             uint8_t *sheet_out, size_t sheet_out_length,
+                             uint8_t *answer, size_t answer_length);
+
+/* The way back, for programs that know no kind 6: each loop of kind 6 is made one of kind 2. After 1 to 5 and before 9 it is
+ * refused 10 where a loop's skip differs from its start. What pumdalin_with_skips made of a sheet without kind 6 becomes that
+ * sheet again. */
+uint32_t pumdalin_without_skips(const uint8_t *sheet, size_t sheet_length,
+                                uint8_t *sheet_out, size_t sheet_out_length,
+                                uint8_t *answer, size_t answer_length);
 
 /* The number of 8 bytes with this index in an answer area. */
 static inline uint64_t pumdalin_number(const uint8_t *answer, size_t index)
@@ -86,6 +107,12 @@ static inline uint64_t pumdalin_visits(const uint8_t *answer)
     return pumdalin_number(answer, 2);
 }
 
+/* The length that an area holds after pumdalin_text, pumdalin_with_skips or pumdalin_without_skips returned 0. */
+static inline uint64_t pumdalin_length(const uint8_t *answer)
+{
+    return pumdalin_number(answer, 0);
+}
+
 /* What a call returned, in words. */
 static inline const char *pumdalin_words(uint32_t number)
 {
@@ -99,7 +126,8 @@ static inline const char *pumdalin_words(uint32_t number)
     case PUMDALIN_CEILING: return "a loop may make more than 2,048 trips at these parameters";
     case PUMDALIN_BUDGET: return "the budget is 0 or above 1,000,000";
     case PUMDALIN_VISITS: return "the sheet takes more visits than the budget";
-    case PUMDALIN_AREA: return "the answer area is too short";
+    case PUMDALIN_AREA: return "the answer area, or the buffer for a new sheet, is too short";
+    case PUMDALIN_SKIP: return "a loop's skip differs from its start, so that it has no kind 2";
     case PUMDALIN_TEXT_BUFFER: return "the buffer is shorter than the text";
     case PUMDALIN_PARAMETER: return "a parameter does not fit 16 bits";
     default: return "no number that a call returns";

@@ -4,9 +4,9 @@
 
 LIBRARY is answers.c linked with the static library. It gets the listings of
 FOLDER, whose expected answers the reckoning too has to give, by going over
-every trip; then the kept cases, then N random ones; each of them with both C
-calls. `bound` gets the same, but only every tenth random case; without PROGRAM
-it is left out.
+every trip; then the kept cases, then N random ones, these with every C call.
+`bound` gets the same, but only every tenth random case; without PROGRAM it is
+left out.
 
 The first line names the seed, which gives the same random cases again. The
 first difference is shown as a listing with both answers. A call that does not

@@ -5,11 +5,13 @@ from dataclasses import dataclass
 from typing import ClassVar, Iterator
 
 import questions
-from calls import ANSWER_LENGTH, INPUT_LIMIT, TEXT_AREA_LENGTH, answer_text, called, text_called
+from calls import ANSWER_LENGTH, INPUT_LIMIT, LENGTH_AREA, Lent, answer_text, called, text_called
+from converters import Converted, convert_called
 from generate import Case
+from known import ZERO
 from listings import reckoned_listing
 from pumdalin.answers import Answer, Figures
-from pumdalin.inputs import HEADER_LENGTH, Parameters, from_input
+from pumdalin.inputs import HEADER_LENGTH, LARGEST_BUDGET, Parameters, from_input
 from pumdalin.records import unsigned
 from questions import GUARD, Guarded, read_reply
 
@@ -136,35 +138,84 @@ class FiguresCall(Call):
 
 
 @dataclass(frozen=True)
-class TextCall(Call):
-    """The text of an input: the buffer and the area that are lent, and what `bound` prints."""
+class LentCall(Call):
+    """A call that stores a text or a sheet in a buffer that is lent, and its length in an area."""
 
     data: bytes
     buffer: bytes
     area: bytes
+
+    @abstractmethod
+    def lent(self) -> Lent:
+        """What has to be there after it."""
+
+    def blocks(self) -> list[bytes]:
+        return [self.data, self.buffer, self.area]
+
+    def expected(self) -> tuple[int, list[bytes]]:
+        number, buffer, area = self.lent()
+        return number, [self.data, buffer, area]
+
+    def written(self, blocks: list[bytes]) -> list[int]:
+        return [0, self.stored_length(blocks), LENGTH_AREA]
+
+    def stored_length(self, blocks: list[bytes]) -> int:
+        """The length that the area says."""
+        return unsigned(blocks[2][:LENGTH_AREA])
+
+
+@dataclass(frozen=True)
+class TextCall(LentCall):
+    """The text of an input: what `bound` prints."""
+
     text: bytes
 
     number = 1
     name = "pumdalin_text"
     block_names = ("input", "text", "area")
 
-    def blocks(self) -> list[bytes]:
-        return [self.data, self.buffer, self.area]
-
-    def expected(self) -> tuple[int, list[bytes]]:
-        number, buffer, area = text_called(self.text, self.buffer, self.area)
-        return number, [self.data, buffer, area]
-
-    def written(self, blocks: list[bytes]) -> list[int]:
-        return [0, self.text_length(blocks), TEXT_AREA_LENGTH]
+    def lent(self) -> Lent:
+        return text_called(self.text, self.buffer, self.area)
 
     def answered(self, blocks: list[bytes]) -> str:
-        length = self.text_length(blocks)
+        length = self.stored_length(blocks)
         return f"{length} bytes, {blocks[1][:length]!r}"
-
-    def text_length(self, blocks: list[bytes]) -> int:
-        """The length that the area says."""
-        return unsigned(blocks[2][:TEXT_AREA_LENGTH])
 
     def sheet_text(self) -> str:
         return shown_input(self.data)
+
+
+@dataclass(frozen=True)
+class ConverterCall(LentCall):
+    """A sheet converted: the new sheet, or refusal 1 to 5 or 10."""
+
+    converted: Converted
+
+    block_names = ("sheet", "new sheet", "area")
+
+    def lent(self) -> Lent:
+        return convert_called(self.converted, self.buffer, self.area)
+
+    def answered(self, blocks: list[bytes]) -> str:
+        length = self.stored_length(blocks)
+        return f"{length} bytes, {blocks[1][:length].hex(' ')}"
+
+    def sheet_text(self) -> str:
+        """Converters take no parameters; the listing has to have some."""
+        return shown(self.data, ZERO, LARGEST_BUDGET)
+
+
+@dataclass(frozen=True)
+class WithSkipsCall(ConverterCall):
+    """Every kind 2 into kind 6."""
+
+    number = 2
+    name = "pumdalin_with_skips"
+
+
+@dataclass(frozen=True)
+class WithoutSkipsCall(ConverterCall):
+    """Every kind 6 into kind 2."""
+
+    number = 3
+    name = "pumdalin_without_skips"

@@ -7,17 +7,21 @@ from random import Random
 from typing import Iterator, NamedTuple
 
 import readings
-from agreement_calls import Call, FiguresCall, TextCall
+from agreement_calls import Call, ConverterCall, FiguresCall, TextCall, WithoutSkipsCall, WithSkipsCall
 from call_cases import C_CALL_CASES, TEXT_CALL_CASES, TEXT_CASES
-from calls import ANSWER_LENGTH, TEXT_AREA_LENGTH, answer, answer_text, program_text, reports
+from calls import ANSWER_LENGTH, LENGTH_AREA, answer, answer_text, program_text, reports
+from conversions import CONVERTERS, Conversion, with_equal_skips
+from converter_cases import kept_conversions
 from figure_cases import with_edges
 from generate import SIZES, Case, cases
+from known import ZERO
 from known_reasons import KNOWN_REASONS
-from pumdalin.answers import Answer
+from pumdalin.answers import Answer, Refusal
 from pumdalin.characters import decoded
 from pumdalin.errors import ListingError
 from pumdalin.inputs import program_input
 from pumdalin.listing_reader import read_listing
+from pumdalin.records import LOOP, SKIP_LOOP
 from walked import BUDGET, walked_case
 
 
@@ -37,6 +41,9 @@ class Expected(NamedTuple):
         return sufficient_text_call(self.tells, program_input(sheet, parameters, budget), text)
 
 
+CONVERTER_CALLS = {SKIP_LOOP: WithSkipsCall, LOOP: WithoutSkipsCall}
+
+
 class Trial(NamedTuple):
     """The library's calls on a case, and the one of them whose input `bound` reads too."""
 
@@ -46,7 +53,7 @@ class Trial(NamedTuple):
 
 def sufficient_text_call(tells: str, data: bytes, text: bytes) -> TextCall:
     """With just as much buffer and area as it takes."""
-    return TextCall(tells, data, bytes(len(text)), bytes(TEXT_AREA_LENGTH), text)
+    return TextCall(tells, data, bytes(len(text)), bytes(LENGTH_AREA), text)
 
 
 def trial(expected: Expected, area: bytes = bytes(ANSWER_LENGTH)) -> Trial:
@@ -69,7 +76,7 @@ def listing_cases(path: Path) -> list[Expected]:
 
 
 def kept_trials() -> list[Trial]:
-    """The readings, the telling sheets, and the cases of both C calls and of `bound`."""
+    """The readings, the telling sheets, and the cases of all C calls and of `bound`."""
     trials: list[Trial] = []
     for line in readings.parse_file(readings.READINGS) + readings.parse_file(readings.TELLING):
         case = Case("reading", line.sheet, line.parameters, line.budget)
@@ -78,7 +85,21 @@ def kept_trials() -> list[Trial]:
         given = (kept.sheet, kept.parameters, kept.budget)
         expected = Expected(f"C call '{kept.tells}'", Case("call", *given), answer(*given))
         trials.append(trial(expected, kept.area))
-    return trials + [Trial([text], text) for text in kept_texts()]
+    trials += [Trial([text], text) for text in kept_texts()]
+    return trials + [kept_conversion(conversion) for conversion in kept_conversions()]
+
+
+def kept_conversion(kept: Conversion) -> Trial:
+    """A converter's call, and the text call on the old sheet."""
+    tells = f"converter call '{kept.tells}'"
+    data = program_input(kept.sheet, ZERO, BUDGET)
+    text = sufficient_text_call(tells, data, program_text(data))
+    return Trial([converter_call(tells, kept), text], text)
+
+
+def converter_call(tells: str, given: Conversion) -> ConverterCall:
+    call = CONVERTER_CALLS[given.kind]
+    return call(tells, given.sheet, given.buffer, given.area, given.converted())
 
 
 def kept_texts() -> list[TextCall]:
@@ -118,17 +139,28 @@ def random_trials(seed: int) -> Iterator[Trial]:
 
 
 def random_trial(random: Random, expected: Expected) -> Trial:
-    """Both calls on a case; what is lent to them does not always suffice."""
+    """All calls on a case; what is lent to them does not always suffice."""
     figures = expected.figures_call(random_area(random, ANSWER_LENGTH))
     text = random_text_call(random, expected.text_call())
-    return Trial([figures, text], text)
+    sheet = expected.case.sheet
+    # Most skips differ from their start, and no sheet with one can be converted back.
+    back = random.choice([sheet, with_equal_skips(sheet)])
+    there = random_converter_call(random, expected.tells, SKIP_LOOP, sheet)
+    return Trial([figures, text, there, random_converter_call(random, expected.tells, LOOP, back)], text)
+
+
+def random_converter_call(random: Random, tells: str, kind: int, sheet: bytes) -> ConverterCall:
+    converted = CONVERTERS[kind](sheet)
+    needed = len(sheet) if isinstance(converted, Refusal) else len(converted)
+    buffer, area = random_buffer(random, needed), random_area(random, LENGTH_AREA)
+    return CONVERTER_CALLS[kind](tells, sheet, buffer, area, converted)
 
 
 def random_text_call(random: Random, plain: TextCall) -> TextCall:
     data = random_input(random, plain.data)
     text = plain.text if data == plain.data else program_text(data)
     return replace(plain, data=data, text=text, buffer=random_buffer(random, len(text)),
-                   area=random_area(random, TEXT_AREA_LENGTH))
+                   area=random_area(random, LENGTH_AREA))
 
 
 def random_input(random: Random, data: bytes) -> bytes:
@@ -144,7 +176,7 @@ def random_area(random: Random, enough: int) -> bytes:
     return random.randbytes(random.choice([enough] * 6 + [longer, shorter]))
 
 
-def random_buffer(random: Random, text_length: int) -> bytes:
-    """Mostly longer than the text; now and then just as long, one byte short, or empty."""
-    longer = text_length + random.randrange(1, 200)
-    return random.randbytes(random.choice([longer] * 6 + [text_length, text_length - 1, 0]))
+def random_buffer(random: Random, needed: int) -> bytes:
+    """Mostly longer than the text or the sheet; now and then just as long, one byte short, or empty."""
+    longer = needed + random.randrange(1, 200)
+    return random.randbytes(random.choice([longer] * 6 + [needed, max(0, needed - 1), 0]))

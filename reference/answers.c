@@ -38,6 +38,22 @@ static uint32_t text(const uint64_t *scalars, const struct block *blocks)
                          blocks[2].bytes, blocks[2].length);
 }
 
+static uint32_t with_skips(const uint64_t *scalars, const struct block *blocks)
+{
+    (void)scalars;
+    return pumdalin_with_skips(blocks[0].bytes, blocks[0].length,
+                               blocks[1].bytes, blocks[1].length,
+                               blocks[2].bytes, blocks[2].length);
+}
+
+static uint32_t without_skips(const uint64_t *scalars, const struct block *blocks)
+{
+    (void)scalars;
+    return pumdalin_without_skips(blocks[0].bytes, blocks[0].length,
+                                  blocks[1].bytes, blocks[1].length,
+                                  blocks[2].bytes, blocks[2].length);
+}
+
 /* The calls by their numbers. */
 static const struct call {
     uint32_t (*make)(const uint64_t *scalars, const struct block *blocks);
@@ -45,6 +61,8 @@ static const struct call {
 } calls[] = {
     {figures, 5, 2},
     {text, 0, 3},
+    {with_skips, 0, 3},
+    {without_skips, 0, 3},
 };
 
 static void fail(const char *what)

@@ -34,6 +34,7 @@ NAME = {
     "work": "workRecord",
     "loop": "loopRecord",
     "loop of": "loopOf",
+    "skip loop of": "skipLoopOf",
     "loop type": "Loop",
     "end": "endRecord",
     "choice": "choiceRecord",
@@ -55,7 +56,11 @@ NAME = {
     "text": "programText",
     "characters": "text",
     "text call": "textCall",
-    "text called": "textCalled",
+    "lent": "lent",
+    "with skips": "withSkips",
+    "without skips": "withoutSkips",
+    "with skips call": "withSkipsCall",
+    "without skips call": "withoutSkipsCall",
     "figure limit": "figureLimit",
     "visits per loop": "visitsPerLoop",
     "input limit": "inputLimit",
@@ -78,11 +83,11 @@ INSIDE_PROOFS = "use Rattle.meaning.proofs."
 REASONS = "holdsLoop, tooFewTrips, unevenIn"
 
 
-def answer_lines(specs: str, proofs: str, results: str, reasons: str = REASONS) -> list[str]:
+def answer_lines(specs: str, proofs: str, results: str) -> list[str]:
     """What a file of answers and loop reports names of `meaning`."""
     return [
         specs + "Reader.{" + results + "}",
-        specs + "Reason.{" + reasons + "}",
+        specs + "Reason.{" + REASONS + "}",
         specs + "Answer.{figures, answer}",
         proofs + "Vocabulary.{hex, zeroParameters, closedLoop, walkedLoop, sheetReportsOf}",
         proofs + "Computes.{computes}",
@@ -93,7 +98,7 @@ IMPORTS = {
     "Readings.antt": [PATH, LIST, INTEGER, *answer_lines(SPECS, PROOFS, "ok, refused")],
     "Telling.antt": [
         PATH, LIST,
-        *answer_lines(INSIDE_SPECS, INSIDE_PROOFS, "ok, refused", "holdsLoop, unevenIn"),
+        *answer_lines(INSIDE_SPECS, INSIDE_PROOFS, "ok, refused"),
     ],
     "Known.antt": [PATH, LIST, POSITIVE, *answer_lines(INSIDE_SPECS, INSIDE_PROOFS, "ok")],
     "KnownAnswers.antt": [
@@ -108,7 +113,7 @@ IMPORTS = {
         SPECS + "Record.{Loop, Record, workRecord, loopRecord, endRecord, choiceRecord, nextArmRecord}",
         SPECS + "Time.{bounds}",
         SPECS + "Stage.{loopFrame, choiceFrame, state}",
-        PROOFS + "Vocabulary.{zeroParameters, form, loopOf, stateAfter}",
+        PROOFS + "Vocabulary.{zeroParameters, form, loopOf, skipLoopOf, stateAfter}",
         PROOFS + "Computes.{computes}",
     ],
     "Calls.antt": [
@@ -123,7 +128,9 @@ IMPORTS = {
         SPECS + "ReasonLine.{readReason}",
         SPECS + "Program.{programText}",
         SPECS + "TextCall.{textCall}",
-        PROOFS + "Vocabulary.{hex, zeroParameters, form, raw, written, notWritten, called, textCalled, found, sheetEnd}",
+        SPECS + "Converter.{withSkips, withoutSkips}",
+        SPECS + "ConverterCall.{withSkipsCall, withoutSkipsCall}",
+        PROOFS + "Vocabulary.{hex, zeroParameters, form, raw, written, notWritten, called, lent, found, sheetEnd}",
         PROOFS + "Computes.{computes}",
     ],
 }
@@ -181,7 +188,10 @@ def form(value: Form) -> str:
 
 def loop_of(loop: Loop) -> str:
     numbers = [str(loop.start), str(loop.step), str(loop.stride)]
-    return term("loop of", *numbers, inner(form(loop.lower)), inner(form(loop.upper)))
+    fields = [*numbers, inner(form(loop.lower)), inner(form(loop.upper))]
+    if loop.skip is None:
+        return term("loop of", *fields)
+    return term("skip loop of", *fields, str(loop.skip))
 
 
 def record(value: Record, loop_name: Optional[str] = None) -> str:
@@ -196,7 +206,7 @@ def record(value: Record, loop_name: Optional[str] = None) -> str:
 def raw_record(entry: RawRecord) -> str:
     """An entry of the writer: kind, then every field of every kind."""
     numbers = [str(number) for number in entry[:6]]
-    return term("raw", *numbers, inner(form(entry.lower)), inner(form(entry.upper)))
+    return term("raw", *numbers, inner(form(entry.lower)), inner(form(entry.upper)), str(entry.skip))
 
 
 def answer(value: Answer) -> str:

@@ -14,6 +14,8 @@ UNEVEN = encode_all(known.UNEVEN)
 PARAMETER = encode_all(known.PARAMETER)
 ONE_WORK = encode(Work(3, 5))
 WIDE = encode_all([Work(1, 300), span(0, 2047, start=4095, step=4095), Work(0, 4095), End()])
+NO_TRIP = encode_all([span(0, -1, start=5, step=9, skip=2), Work(3, 5), End()])
+SKIPPED = encode_all([span(0, 3), loop(form(), form(-1, i=1), start=5, skip=1), Work(3, 5), End(), End()])
 SMALL = encode_all([Choice(), span(0, 3), Work(1, 2), End(), NextArm(), End()])
 
 
@@ -43,12 +45,13 @@ C_CALL_CASES = [
     CallCase("budget 1,000,001", ONE_WORK, ZERO, 1_000_001, area(24)),
     CallCase("budget 2^32 - 1, before 2", b"\x09", ZERO, 2 ** 32 - 1, area(25)),
     CallCase("1", TRIANGLE[:20], ZERO, 1, area(26)),
-    CallCase("2", ONE_WORK + b"\x06", ZERO, 1, area(26)),
+    CallCase("2", ONE_WORK + b"\x07", ZERO, 1, area(26)),
     CallCase("3", encode(Work(0, 4096)), ZERO, 1, area(24)),
     CallCase("4", b"\x04\x03" * 32 + b"\x09", ZERO, 1, area(24)),
     CallCase("5", b"\x03", ZERO, 1, area(24)),
     CallCase("5, open at the end", b"\x04", ZERO, 1, area(24)),
     CallCase("6", encode_all([span(0, 2048), End()]), ZERO, 1, area(24)),
+    CallCase("skip in place of start", NO_TRIP, ZERO, 1, area(24)),
     CallCase("20 visits, budget 20", UNEVEN, ZERO, 20, area(24)),
     CallCase("20 visits, budget 19", UNEVEN, ZERO, 19, area(24)),
 ]
@@ -77,7 +80,10 @@ READER_CASES = [
     ReaderCase("work, one byte short", ONE_WORK[:4], 0),
     ReaderCase("work, just whole", ONE_WORK, 0),
     ReaderCase("kind 0", b"\x00", 0),
-    ReaderCase("kind 6", ONE_WORK + b"\x06", 5),
+    ReaderCase("loop of kind 6, just whole", NO_TRIP[:27], 0),
+    ReaderCase("loop of kind 6, one byte short", NO_TRIP[:26], 0),
+    ReaderCase("after a loop of kind 6", NO_TRIP, 27),
+    ReaderCase("kind 7", ONE_WORK + b"\x07", 5),
     ReaderCase("kind 255", b"\x03\xff\x03", 1),
     ReaderCase("fields are not looked at", b"\x01\xff\xff\x00\x00", 0),
 ]
@@ -103,7 +109,9 @@ TEXT_CASES = [
     TextCase("empty sheet", program_input(b"")),
     TextCase("no input", b""),
     TextCase("11 bytes", program_input(b"")[:11]),
-    TextCase("2 at a place of two digits", program_input(ONE_WORK * 2 + b"\x06")),
+    TextCase("2 at a place of two digits", program_input(ONE_WORK * 2 + b"\x07")),
+    TextCase("skip in place of start", program_input(NO_TRIP)),
+    TextCase("walked, since skip and start differ", program_input(SKIPPED)),
     TextCase("budget 0", program_input(TRIANGLE, ZERO, 0)),
     TextCase("budget's third byte", program_input(ONE_WORK, ZERO, 65536)),
     TextCase("budget's fourth byte", program_input(ONE_WORK, ZERO, 2 ** 24 + 1)),
@@ -156,7 +164,7 @@ class TextCallCase(NamedTuple):
 
 
 def text_call_case(
-    tells: str, data: bytes, spare: int = 0, area_length: int = calls.TEXT_AREA_LENGTH
+    tells: str, data: bytes, spare: int = 0, area_length: int = calls.LENGTH_AREA
 ) -> TextCallCase:
     """The call with a buffer that has so many bytes more than the text, or fewer."""
     text_length = len(calls.program_text(data))
@@ -164,7 +172,7 @@ def text_call_case(
 
 
 PRINTED = program_input(TRIANGLE)
-REFUSED = program_input(ONE_WORK + b"\x06")
+REFUSED = program_input(ONE_WORK + b"\x07")
 WALKED = program_input(UNEVEN)
 MOST_LINES = program_input(encode_all([span(0, 2047, start=4095, step=4095), End()] * 32))
 # 32 loops, of which 24 are walked

@@ -12,8 +12,8 @@ from sheet import read
 from trips import Bounds, TooMany
 
 ANSWER_LENGTH = 24
-TEXT_AREA_LENGTH = 8
-INPUT_LIMIT = 1613
+LENGTH_AREA = 8
+INPUT_LIMIT = 1741
 
 # Up to so many trips the figures come from going over every trip.
 TRIP_LIMIT = 4_000
@@ -96,24 +96,29 @@ def answer_text(result: Answer, loops: list[ReckonedLoop]) -> bytes:
     return "".join(lines).encode()
 
 
-class TextCalled(NamedTuple):
-    """The text call's number, and the whole buffer and area after it."""
+class Lent(NamedTuple):
+    """The number of a call that stores a text or a sheet, and the whole buffer and area after it."""
 
     number: int
     buffer: bytes
     area: bytes
 
 
-def text_call(data: bytes, buffer: bytes, area: bytes) -> TextCalled:
+def lent(data: bytes, buffer: bytes, area: bytes) -> Lent:
+    """The bytes at the buffer's start and their length at the area's; all others stay."""
+    length = len(data).to_bytes(LENGTH_AREA, "little")
+    return Lent(0, data + buffer[len(data):], length + area[LENGTH_AREA:])
+
+
+def text_call(data: bytes, buffer: bytes, area: bytes) -> Lent:
     """The C call that stores what `bound` prints for the same input."""
     return text_called(program_text(data), buffer, area)
 
 
-def text_called(text: bytes, buffer: bytes, area: bytes) -> TextCalled:
+def text_called(text: bytes, buffer: bytes, area: bytes) -> Lent:
     """9 comes before 12, and both write nothing; a refusal of the sheet is text like any other."""
-    if len(area) < TEXT_AREA_LENGTH:
-        return TextCalled(9, buffer, area)
+    if len(area) < LENGTH_AREA:
+        return Lent(9, buffer, area)
     if len(buffer) < len(text):
-        return TextCalled(12, buffer, area)
-    length = len(text).to_bytes(TEXT_AREA_LENGTH, "little")
-    return TextCalled(0, text + buffer[len(text):], length + area[TEXT_AREA_LENGTH:])
+        return Lent(12, buffer, area)
+    return lent(text, buffer, area)

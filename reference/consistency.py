@@ -167,7 +167,9 @@ def failing_tests(
     ]
     for at in loops:
         loop = records[at]
-        if known[at].difference.smallest < -loop.stride:
+        # document 02, C-12: 0 where no trip costs other than start
+        asked = -loop.stride if loop.skip in (None, loop.start) else 0
+        if known[at].difference.smallest < asked:
             found.append(TooFewTrips(places[at]))
         around = [outer for outer in open_records[at] if isinstance(records[outer], Loop)]
         path = [records[outer] for outer in around]
@@ -187,8 +189,10 @@ def random_run(body: Body, indexes: list[int], parameters: Parameters, random: R
         elif isinstance(node, ChoiceNode):
             total += random_run(random.choice(node.arms), indexes, parameters, random)
         else:
-            total += node.loop.start
-            for counter in range(trips.trips_of(node.loop, indexes, parameters)):
+            count = trips.trips_of(node.loop, indexes, parameters)
+            no_start = count == 0 and node.loop.skip is not None
+            total += node.loop.skip if no_start else node.loop.start
+            for counter in range(count):
                 index = trips.index_of(node.loop, counter, indexes, parameters)
                 total += random_run(node.body, indexes + [index], parameters, random)
                 total += node.loop.step

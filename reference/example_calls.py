@@ -1,16 +1,18 @@
-"""Calls.antt: the writer, the C calls, the record reader, the program's text, reasons, three numbers."""
+"""Calls.antt: writer, C calls, record reader, the program's text, reasons, converters, three numbers."""
 
 import antt
 from antt import Equation, inner, listed, octets, term
 from call_cases import C_CALL_CASES, READER_CASES, REASON_CASES, TEXT_CALL_CASES, TEXT_CASES
 from calls import INPUT_LIMIT, c_call, program_text, text_call
 from consistency import FIGURE_LIMIT, VISITS_PER_LOOP
+from conversions import CONVERSIONS, Conversion
+from converters import convert_called, stored
 from pumdalin.answers import Refusal
-from pumdalin.records import Form
+from pumdalin.records import SKIP_LOOP, Form
 from reasons import read_reason
-from sheet import Part, record_at, write
+from sheet import Part, Written, record_at, write
 from writer_cases import (
-    CHOICE_ENTRY, END_ENTRY, LOOP_ENTRY, NEXT_ENTRY, WORK_ENTRY, WRITER_CASES, RawRecord,
+    CHOICE_ENTRY, END_ENTRY, LOOP_ENTRY, NEXT_ENTRY, SKIP_ENTRY, WORK_ENTRY, WRITER_CASES, RawRecord,
 )
 
 # Longer inputs are left to the stored cases: the checker has to compute the examples.
@@ -24,6 +26,7 @@ ENTRY_NAMES = {
     END_ENTRY: "anEnd",
     CHOICE_ENTRY: "aChoice",
     NEXT_ENTRY: "aNextArm",
+    SKIP_ENTRY: "aSkipLoop",
 }
 
 
@@ -48,14 +51,16 @@ def writer_equations() -> list[Equation]:
     for case in WRITER_CASES:
         given = [entries(case.entries), str(case.count), octets(case.buffer)]
         result = write(case.entries, case.count, case.buffer)
-        if isinstance(result.answer, Refusal):
-            assert result.buffer == case.buffer
-            numbers = [str(number) for number in result.answer]
-            right = term("not written", *numbers, octets(result.buffer))
-        else:
-            right = term("written", str(result.answer), octets(result.buffer))
-        found.append(Equation(case.tells, term("write", *given), right))
+        found.append(Equation(case.tells, term("write", *given), written(result)))
     return found
+
+
+def written(result: Written) -> str:
+    """The answer and the buffer of the writer or of a converter."""
+    if isinstance(result.answer, Refusal):
+        numbers = [str(number) for number in result.answer]
+        return term("not written", *numbers, octets(result.buffer))
+    return term("written", str(result.answer), octets(result.buffer))
 
 
 def call_equations() -> list[Equation]:
@@ -101,8 +106,32 @@ def text_call_equations() -> list[Equation]:
         if len(case.data) <= LONGEST_INPUT:
             given = [octets(case.data), octets(case.buffer), octets(case.area)]
             number, buffer, area = text_call(case.data, case.buffer, case.area)
-            right = term("text called", str(number), octets(buffer), octets(area))
+            right = term("lent", str(number), octets(buffer), octets(area))
             found.append(Equation(case.tells, term("text call", *given), right))
+    return found
+
+
+def converter_name(case: Conversion) -> str:
+    return "with skips" if case.kind == SKIP_LOOP else "without skips"
+
+
+def converter_equations() -> list[Equation]:
+    """The library calls, which take no area."""
+    found: list[Equation] = []
+    for case in CONVERSIONS:
+        left = term(converter_name(case), octets(case.sheet), octets(case.buffer))
+        if left not in [equation.left for equation in found]:
+            found.append(Equation(case.tells, left, written(stored(case.converted(), case.buffer))))
+    return found
+
+
+def converter_call_equations() -> list[Equation]:
+    found: list[Equation] = []
+    for case in CONVERSIONS:
+        number, buffer, area = convert_called(case.converted(), case.buffer, case.area)
+        given = [octets(case.sheet), octets(case.buffer), octets(case.area)]
+        right = term("lent", str(number), octets(buffer), octets(area))
+        found.append(Equation(case.tells, term(converter_name(case) + " call", *given), right))
     return found
 
 
@@ -134,7 +163,9 @@ def calls_file(group: int) -> str:
     parts += antt.grouped("program-text", text_equations(), group)
     parts += antt.grouped("text-call", text_call_equations(), group)
     parts += antt.grouped("reading-back", reason_equations(), group)
+    parts += antt.grouped("converter", converter_equations(), group)
+    parts += antt.grouped("converter-call", converter_call_equations(), group)
     parts += antt.grouped("numbers", number_equations(), group)
-    comments = ["The writer, the C calls, the record reader, the program's text and reasons read back, by cases.",
+    comments = ["The writer, C calls, the record reader, the program's text, reasons read back, converters, by cases.",
                 "Last three numbers that only theorems name."]
     return antt.file_text("Calls.antt", comments, parts)

@@ -65,6 +65,19 @@ EXAMPLES = [
         span(0, 3, step=1), Choice(), Work(1, 90), NextArm(), Work(3, 4), NextArm(),
         span(0, 2), loop(form(i=1), form(1)), UNIT, END, END, END, END,
     ]),
+    Example("skip in place of start, and start in place of skip", [
+        Work(1, 2), span(5, 4, start=7, step=9, skip=3), UNIT, END,
+        span(0, 1, start=7, step=1, skip=3), UNIT, END, Work(10, 20),
+    ]),
+    Example("walked: the inner loop pays skip in the first trip", [
+        span(0, 2, start=1), loop(form(0), form(-1, i=1), start=5, step=1, skip=2), Work(1, 3), END, END,
+    ]),
+    Example("closed: the inner loop, of kind 6, has a trip at least", [
+        span(0, 3, skip=4), loop(form(0), form(i=1), start=5, skip=2), UNIT, END, END,
+    ]),
+    Example("skip in an arm", [
+        span(0, 1), Choice(), loop(form(0), form(-1, i=1), start=9, skip=2), UNIT, END, NextArm(), Work(4, 4), END, END,
+    ]),
     Example("parameters, a negative factor, strides", [
         loop(form(p=(1,)), form(p=(1, 0, 2)), stride=3), Work(1, 2),
         loop(form(1, i=-1), form(20, i=-1, p=(0, -1)), stride=2, start=2), Work(5, 6), END, END,

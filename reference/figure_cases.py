@@ -20,7 +20,7 @@ from stored import main
 
 SEED = 2051
 # of each size, three sheets each: valid, damaged, hostile
-RANDOM_CASES = {"small": 450, "middle": 250, "large": 60}
+RANDOM_CASES = {"small": 420, "middle": 230, "large": 55}
 FIGURES = 4
 
 

@@ -8,7 +8,7 @@ SIZE is small, middle or large.
 
 import sys
 from random import Random
-from typing import NamedTuple
+from typing import NamedTuple, Optional
 
 from calls import answer, reports
 from hostile import hostile_sheet
@@ -76,10 +76,16 @@ def bounds(random: Random, size: Size, enclosing: int, stride: int) -> tuple[For
     return lower, Form(lower.constant + width, upper, parameters)
 
 
+def skip(random: Random, start: int) -> Optional[int]:
+    """None for every other loop, which is then of kind 2; else equal to start, or any other."""
+    return random.choice([None, None, start, cost(random)])
+
+
 def loop(random: Random, size: Size, enclosing: int) -> Loop:
     stride = random.choice([1, 1, 1, 2, 2, 3, 4])
     lower, upper = bounds(random, size, enclosing, stride)
-    return Loop(cost(random), cost(random), stride, lower, upper)
+    start = cost(random)
+    return Loop(start, cost(random), stride, lower, upper, skip(random, start))
 
 
 def body(random: Random, size: Size, loops: int, opened: int, room: int) -> list[Record]:
@@ -143,16 +149,16 @@ def damaged_sheet(random: Random, size: Size) -> bytes:
         elif damage == "flip" and sheet:
             sheet[at] ^= 1 << random.randrange(8)
         elif damage == "byte" and sheet:
-            sheet[at] = random.choice([0, 1, 2, 3, 4, 5, 6, 127, 128, 255])
+            sheet[at] = random.choice([0, 1, 2, 3, 4, 5, 6, 7, 127, 128, 255])
         elif damage == "edge":
             edge = random.choice([0, 1, 1000, 1001, 4095, 4096, 32767, 32768, 65535])
             sheet[at:at + 2] = edge.to_bytes(2, "little")
         elif damage == "drop":
             del sheet[at:at + 1]
         elif damage == "insert":
-            sheet.insert(at, random.randrange(6))
+            sheet.insert(at, random.randrange(7))
         else:
-            sheet += bytes(random.choices(range(7), k=random.randint(1, 4)))
+            sheet += bytes(random.choices(range(8), k=random.randint(1, 4)))
     return bytes(sheet)
 
 

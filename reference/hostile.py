@@ -20,9 +20,10 @@ def extreme_loop(random: Random, enclosing: int) -> Loop:
     """Mostly loops of up to 2,048 trips; some have bounds far beyond."""
     stride = random.choice([1, 2, 7, STRIDE_MOST])
     start, step = [random.choice([0, COST_LIMIT]) for _ in range(2)]
+    skip = random.choice([None, None, 0, COST_LIMIT])
     lower = extreme_form(random, enclosing)
     if random.random() < 0.1:
-        return Loop(start, step, stride, lower, extreme_form(random, enclosing))
+        return Loop(start, step, stride, lower, extreme_form(random, enclosing), skip)
     trips = random.choice([0, 1, 2, 3, 5, 2047, 2048, random.randint(0, 2048)])
     if random.random() < 0.02:
         trips = 2049
@@ -31,7 +32,7 @@ def extreme_loop(random: Random, enclosing: int) -> Loop:
     if enclosing and random.random() < 0.3:
         slant = lower.indexes[0] - random.choice([1, stride])
         upper = upper._replace(indexes=(max(-128, slant),) + lower.indexes[1:])
-    return Loop(start, step, stride, lower, upper)
+    return Loop(start, step, stride, lower, upper, skip)
 
 
 def menu(opened: list[str], room: int) -> list[str]:

@@ -1,6 +1,6 @@
 """The sheets with known figures, in the order of the requirement's list."""
 
-from typing import NamedTuple
+from typing import NamedTuple, Optional
 
 from pumdalin.answers import Answer, Figures, Refusal
 from pumdalin.inputs import Parameters
@@ -12,13 +12,17 @@ def form(constant: int = 0, i: int = 0, j: int = 0, k: int = 0, p: tuple[int, ..
     return Form(constant, (i, j, k), tuple(p) + (0,) * (4 - len(p)))
 
 
-def loop(lower: Form, upper: Form, stride: int = 1, start: int = 0, step: int = 0) -> Loop:
-    return Loop(start, step, stride, lower, upper)
+def loop(
+    lower: Form, upper: Form, stride: int = 1, start: int = 0, step: int = 0, skip: Optional[int] = None
+) -> Loop:
+    return Loop(start, step, stride, lower, upper, skip)
 
 
-def span(first: int, last: int, stride: int = 1, start: int = 0, step: int = 0) -> Loop:
+def span(
+    first: int, last: int, stride: int = 1, start: int = 0, step: int = 0, skip: Optional[int] = None
+) -> Loop:
     """A loop between two constants."""
-    return loop(form(first), form(last), stride, start, step)
+    return loop(form(first), form(last), stride, start, step, skip)
 
 
 UNIT = Work(1, 1)

@@ -1,6 +1,6 @@
-"""Sheets with the reason of each of their loops, worked out by hand from document 02, C-11.
+"""Sheets with the reason of each of their loops, worked out by hand from document 02, C-11 and C-12.
 
-A loop takes 25 bytes, a work 5, any other record 1.
+A loop takes 25 bytes, one of kind 6 takes 27, a work 5, any other record 1.
 """
 
 from typing import NamedTuple, Optional
@@ -177,4 +177,56 @@ FAR = [
     ]),
 ]
 
-KNOWN_REASONS = CHOICES + FEW_TRIPS + UNEVEN + SEVERAL + FAR
+# Loops in a loop i that make no trip in its first trip: their skip is equal to start, below it, above it.
+SAME = loop(form(0), form(-1, i=1), start=3, skip=3)
+LESS = loop(form(0), form(-1, i=1), start=3, skip=1)
+MORE = loop(form(0), form(-1, i=1), start=3, skip=5)
+# Never without a trip.
+ALWAYS = loop(form(0), form(i=1), start=3, skip=1)
+
+SKIPS = [
+    KnownReasons("a skip below start", [FOUR, LESS, UNIT, END, END], [TooFewTrips(25), None]),
+    KnownReasons("a skip above start", [FOUR, MORE, UNIT, END, END], [TooFewTrips(25), None]),
+    KnownReasons("a skip equal to start", [FOUR, SAME, UNIT, END, END], [None, None]),
+    KnownReasons("a trip at least, whatever the skip", [FOUR, ALWAYS, UNIT, END, END], [None, None]),
+    KnownReasons("D is -1, though not below minus the stride", [
+        FOUR, span(0, -1, stride=1000, start=1, skip=0), END, END,
+    ], [TooFewTrips(25), None]),
+    KnownReasons("a skip equal to start, D below minus the stride", [
+        FOUR, span(0, -2, start=1, skip=1), END, END,
+    ], [TooFewTrips(25), None]),
+    KnownReasons("too few trips by its skip, and uneven", [
+        FOUR, loop(form(0), form(-1, i=1), stride=2, start=3, skip=1), END, END,
+    ], [TooFewTrips(25), None]),
+    KnownReasons("uneven, with a trip at least", [
+        FOUR, loop(form(0), form(i=1), stride=2, start=3, skip=1), END, END,
+    ], [UnevenIn(25, 0), None]),
+    KnownReasons("a skip two deep", [
+        FOUR, FOUR, loop(form(0), form(-1, i=1), start=3, skip=1), END, END, END,
+    ], [TooFewTrips(50), TooFewTrips(50), None]),
+    KnownReasons("a skip four deep", [
+        FOUR, FOUR, FOUR, span(0, -1, start=1, skip=0), END, END, END, END,
+    ], [TooFewTrips(75), TooFewTrips(75), TooFewTrips(75), None]),
+    KnownReasons("a loop that is never entered", [
+        span(0, -1), span(0, -1, start=2, skip=1), END, END,
+    ], [TooFewTrips(25), None]),
+    KnownReasons("its own skip is not asked", [span(0, -1, start=2, skip=1), FINE, END, END], [None, None]),
+    KnownReasons("a choice after a skip", [
+        FOUR, LESS, END, CHOICE, FINE, END, END, END,
+    ], [HoldsLoop(53), None, None]),
+    KnownReasons("a skip in a choice", [FOUR, CHOICE, LESS, END, END, END], [HoldsLoop(25), None]),
+    KnownReasons("a fine loop, an uneven one, one with a skip", [
+        span(0, 3, skip=9), ALWAYS, END, ODD, END, LESS, END, END,
+    ], [UnevenIn(55, 0), None, None, None]),
+    KnownReasons("a parameter that leaves no trip", [
+        FOUR, loop(form(0), form(p=(1,)), start=1, skip=0), END, END,
+    ], [TooFewTrips(25), None], (-1, 0, 0, 0)),
+    KnownReasons("a parameter that leaves one", [
+        FOUR, loop(form(0), form(p=(1,)), start=1, skip=0), END, END,
+    ], [None, None]),
+    KnownReasons("a skip after 30 loops of kind 6", [span(0, 3, skip=1), END] * 30 + [FOUR, LESS, END, END], [
+        *[None] * 30, TooFewTrips(865), None,
+    ]),
+]
+
+KNOWN_REASONS = CHOICES + FEW_TRIPS + UNEVEN + SEVERAL + FAR + SKIPS

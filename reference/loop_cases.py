@@ -28,10 +28,10 @@ from walked import walked_case
 
 SEED = 2050
 # of each size, three sheets each: valid, damaged, hostile
-RANDOM_CASES = 200
+RANDOM_CASES = 185
 # of each size, valid ones at several parameters
-VALID_SHEETS = 100
-WALKED_SHEETS = 500
+VALID_SHEETS = 95
+WALKED_SHEETS = 480
 PLAN = 3
 
 

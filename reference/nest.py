@@ -6,7 +6,7 @@ from pumdalin.answers import LoopReport, Refusal
 from pumdalin.inputs import Parameters
 from pumdalin.records import CEILING_LIMIT, Form, Loop, Record, offsets
 from reasons import HoldsLoop, Reason, TooFewTrips, UnevenIn
-from sheet import read
+from sheet import read, skip_of
 from tree import Body, LoopNode, choices_in, height, loops_directly_in, tree
 
 
@@ -147,12 +147,20 @@ def reason_of(
         if choice.holds_loop():
             return HoldsLoop(places[choice.position])
     for *around, inner in paths_in(walked.body, path):
-        if differences[inner.position].smallest < -inner.loop.stride:
+        if differences[inner.position].smallest < asked_difference(inner.loop):
             return TooFewTrips(places[inner.position])
         for mover in range(len(path) - 1, len(around)):
             if push(around, mover, inner.loop) % inner.loop.stride != 0:
                 return UnevenIn(places[inner.position], places[around[mover].position])
     return None
+
+
+def asked_difference(inner: Loop) -> int:
+    """The smallest D that closing asks of a loop inside (document 02, C-12).
+
+    Where skip and start differ, the loop has to make a trip, and so pay start, each time it is met.
+    """
+    return -inner.stride if skip_of(inner) == inner.start else 0
 
 
 def push(around: list[LoopNode], mover: int, inner: Loop) -> int:

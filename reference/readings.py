@@ -1,24 +1,29 @@
 """Two files of sheets with their answers: readings.txt has those that tell readings of the
 papers apart, telling.txt those that tell a definition from one that is wrong in one place.
-requests.txt has inputs of `bound` that tell readings of document 02 apart.
+requests.txt has calls that tell readings of document 02 apart.
 
 A line of the first two: four parameters, budget, sheet in hex (- if empty), `=>`, then
 `ok LEAST MOST VISITS WAYS CEILINGS` (c or w by loop; - if there is none) or
 `refused NUMBER PLACE`; last `#` and what it tells. A line of the third: the request, the
-input in hex, `=>`, then the printed text with | for each line feed; last the same.
+input of `bound` in hex, `=>`, then the printed text with | for each line feed; last the same.
+Or the request, `to6` or `to2`, the length of the buffer, the sheet, `=>`, then `ok`, the new
+sheet's length and the new sheet, or `refused NUMBER PLACE`; last the same.
 """
 
 import os
-from typing import NamedTuple
+from typing import NamedTuple, Union
 
 from pumdalin.answers import Answer, Figures, Refusal
 from pumdalin.inputs import Parameters
-
+from pumdalin.records import LOOP, SKIP_LOOP
 
 HERE = os.path.dirname(os.path.abspath(__file__))
 READINGS = os.path.join(HERE, "readings.txt")
 TELLING = os.path.join(HERE, "telling.txt")
 REQUESTS = os.path.join(HERE, "requests.txt")
+
+# The kind that loops get from each converter.
+CONVERTERS = {"to6": SKIP_LOOP, "to2": LOOP}
 
 
 class Reading(NamedTuple):
@@ -38,6 +43,19 @@ class Printed(NamedTuple):
     tells: str
 
 
+class RequestedConversion(NamedTuple):
+    request: str
+    kind: int
+    room: int
+    sheet: bytes
+    answer: Union[bytes, Refusal]
+    tells: str
+
+
+def from_hex(text: str) -> bytes:
+    return bytes.fromhex("" if text == "-" else text)
+
+
 def parse_line(line: str) -> Reading:
     case, _, tells = line.partition("#")
     given, _, expected = case.partition("=>")
@@ -48,7 +66,7 @@ def parse_line(line: str) -> Reading:
     return Reading(
         tuple(int(number) for number in numbers[:4]),
         int(numbers[4]),
-        bytes.fromhex("" if sheet == "-" else sheet),
+        from_hex(sheet),
         Figures(*figures) if answered else Refusal(*figures),
         words[4].replace("-", "") if answered else "",
         [int(c) for c in words[5].split(",") if c != "-"] if answered else [],
@@ -68,6 +86,20 @@ def parse_request(line: str) -> Printed:
     )
 
 
+def parse_conversion(line: str) -> RequestedConversion:
+    case, _, tells = line.partition("#")
+    given, _, expected = case.partition("=>")
+    request, converter, room, sheet = given.split()
+    word, number, value = expected.split()
+    answer = from_hex(value) if word == "ok" else Refusal(int(number), int(value))
+    assert isinstance(answer, Refusal) or len(answer) == int(number), line
+    return RequestedConversion(request, CONVERTERS[converter], int(room), from_hex(sheet), answer, tells.strip())
+
+
+def is_conversion(line: str) -> bool:
+    return line.split()[1] in CONVERTERS
+
+
 def lines_of(path: str) -> list[str]:
     """The lines of a file, save those that are empty or comments."""
     with open(path, encoding="utf-8") as file:
@@ -80,4 +112,9 @@ def parse_file(path: str) -> list[Reading]:
 
 
 def parse_requests() -> list[Printed]:
-    return [parse_request(line) for line in lines_of(REQUESTS)]
+    """Those of `bound`."""
+    return [parse_request(line) for line in lines_of(REQUESTS) if not is_conversion(line)]
+
+
+def parse_conversions() -> list[RequestedConversion]:
+    return [parse_conversion(line) for line in lines_of(REQUESTS) if is_conversion(line)]

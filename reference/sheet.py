@@ -4,9 +4,9 @@ from typing import NamedTuple, Optional, Union
 
 from pumdalin.answers import Refusal
 from pumdalin.records import (
-    BODY_LENGTH, CHOICE, COST_LIMIT, END, KIND_OF, LOOP, MOST_LOOPS_DEEP, MOST_OPEN, MOST_RECORDS,
-    NEXT_ARM, OPENS, STRIDE_LEAST, STRIDE_MOST, WORK, Form, Loop, Record, Work, decode, encode_all,
-    open_after, record_length,
+    BODY_LENGTH, CHOICE, COST_LIMIT, END, LOOPS, MOST_LOOPS_DEEP, MOST_OPEN, MOST_RECORDS,
+    NEXT_ARM, OPENS, SKIP_LOOP, STRIDE_LEAST, STRIDE_MOST, WORK, Form, Loop, Record, Work, decode,
+    encode_all, kind_of, open_after, record_length,
 )
 
 
@@ -39,15 +39,25 @@ def in_range(record: Record, open_kinds: list[int]) -> bool:
     if isinstance(record, Work):
         return record.least <= record.most <= COST_LIMIT
     if isinstance(record, Loop):
-        enclosing = open_kinds.count(LOOP)
+        enclosing = loops_open(open_kinds)
         return (
             record.start <= COST_LIMIT
             and record.step <= COST_LIMIT
+            and skip_of(record) <= COST_LIMIT
             and STRIDE_LEAST <= record.stride <= STRIDE_MOST
             and only_enclosing(record.lower, enclosing)
             and only_enclosing(record.upper, enclosing)
         )
     return True
+
+
+def skip_of(loop: Loop) -> int:
+    """The cycles paid in place of start when there is no trip; kind 2 means skip equal to start."""
+    return loop.start if loop.skip is None else loop.skip
+
+
+def loops_open(open_kinds: list[int]) -> int:
+    return sum(kind in LOOPS for kind in open_kinds)
 
 
 def only_enclosing(form: Form, enclosing: int) -> bool:
@@ -61,7 +71,7 @@ def in_place(kind: int, open_kinds: list[int]) -> bool:
         return len(open_kinds) > 0
     if kind == NEXT_ARM:
         return len(open_kinds) > 0 and open_kinds[-1] == CHOICE
-    if kind == LOOP and open_kinds.count(LOOP) == MOST_LOOPS_DEEP:
+    if kind in LOOPS and loops_open(open_kinds) == MOST_LOOPS_DEEP:
         return False
     if kind in OPENS:
         return len(open_kinds) < MOST_OPEN
@@ -108,6 +118,7 @@ class RawRecord(NamedTuple):
     stride: int = 0
     lower: Form = Form()
     upper: Form = Form()
+    skip: int = 0
 
 
 BLANK = RawRecord()
@@ -118,22 +129,23 @@ def raw(record: Record) -> RawRecord:
     if isinstance(record, Work):
         return RawRecord(kind=WORK, least=record.least, most=record.most)
     if isinstance(record, Loop):
-        return RawRecord(LOOP, 0, 0, record.start, record.step, record.stride,
-                         record.lower, record.upper)
-    return RawRecord(kind=KIND_OF[type(record)])
+        return RawRecord(kind_of(record), 0, 0, record.start, record.step, record.stride,
+                         record.lower, record.upper, record.skip or 0)
+    return RawRecord(kind=kind_of(record))
 
 
 def own_fields(entry: RawRecord) -> Record:
     """The record of the entry's kind, with the fields that this kind has."""
     if entry.kind == WORK:
         return Work(entry.least, entry.most)
-    if entry.kind == LOOP:
-        return Loop(entry.start, entry.step, entry.stride, entry.lower, entry.upper)
+    if entry.kind in LOOPS:
+        skip = entry.skip if entry.kind == SKIP_LOOP else None
+        return Loop(entry.start, entry.step, entry.stride, entry.lower, entry.upper, skip)
     return decode(entry.kind, b"")
 
 
 class Written(NamedTuple):
-    """The writer's answer, and the whole buffer after it."""
+    """The answer of the writer or a converter, and the whole buffer after it."""
 
     answer: Union[int, Refusal]
     buffer: bytes
@@ -172,7 +184,11 @@ def write(entries: list[RawRecord], count: int, buffer: bytes) -> Written:
     records = checked(entries, count)
     if isinstance(records, Refusal):
         return Written(records, buffer)
-    sheet = encode_all(records)
+    return laid(encode_all(records), buffer)
+
+
+def laid(sheet: bytes, buffer: bytes) -> Written:
+    """A sheet at the buffer's start, or 9; bytes past it stay."""
     if len(buffer) < len(sheet):
         return Written(Refusal(9, 0), buffer)
     return Written(len(sheet), sheet + buffer[len(sheet):])

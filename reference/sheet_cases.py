@@ -12,35 +12,39 @@ one case after the other, numbers low byte first:
     2  place of the refusal, or the count (reader), or the length (writer)
     2  the count that the writer is given
     2  length of the writer's buffer
-    then the sheet, then the records, 29 bytes each: kind, least, most, start,
-    step, stride, lower form, upper form.
+    then the sheet, then the records, 31 bytes each: kind, least, most, start,
+    step, stride, lower form, upper form, skip.
 """
 
 from random import Random
 
 import known
-import readings
+from conversions import ALL_KINDS, LONGEST
 from generate import SIZES, damaged_sheet, valid_records
 from hostile import hostile_sheet
+from kept import kept_cases
 from pumdalin.answers import Refusal
-from pumdalin.records import encode_all, encode_form, two_bytes_each
+from pumdalin.records import BODY_LENGTH, MOST_RECORDS, SKIP_LOOP, encode_all, encode_form, two_bytes_each
 from sheet import RawRecord, raw, read, write
 from stored import main
 from writer_cases import WRITER_CASES, WriterCase
 
 SEED = 2049
 # of each size
-VALID_SHEETS = 50
-DAMAGED_SHEETS = 180
-HOSTILE_SHEETS = 60
-RANDOM_WRITES = 200
+VALID_SHEETS = 45
+DAMAGED_SHEETS = 150
+HOSTILE_SHEETS = 50
+RANDOM_WRITES = 180
 READER = 1
 WRITER = 2
+# No sheet has more bytes.
+LONGEST_SHEET = MOST_RECORDS * (1 + BODY_LENGTH[SKIP_LOOP])
 
 
 def entry_bytes(entry: RawRecord) -> bytes:
     costs = two_bytes_each(entry.least, entry.most, entry.start, entry.step, entry.stride)
-    return bytes([entry.kind]) + costs + encode_form(entry.lower) + encode_form(entry.upper)
+    forms = encode_form(entry.lower) + encode_form(entry.upper)
+    return bytes([entry.kind]) + costs + forms + two_bytes_each(entry.skip)
 
 
 def reader_case(sheet: bytes) -> bytes:
@@ -71,14 +75,14 @@ def writer_case(case: WriterCase) -> bytes:
 
 
 def truncations() -> list[bytes]:
-    """Every beginning of each sheet with known figures."""
-    sheets = [case.sheet() for case in known.MARKED]
+    """Every beginning of each sheet with known figures, and of one with loops of both kinds."""
+    sheets = [case.sheet() for case in known.MARKED] + [encode_all(ALL_KINDS)]
     return [sheet[:length] for sheet in sheets for length in range(len(sheet) + 1)]
 
 
 def kinds() -> list[bytes]:
     """Every byte as a kind, alone and with a long body."""
-    return [bytes([kind]) + bytes(length) for kind in range(256) for length in (0, 24)]
+    return [bytes([kind]) + bytes(length) for kind in range(256) for length in (0, 26)]
 
 
 def random_sheets(random: Random) -> list[bytes]:
@@ -98,8 +102,8 @@ def random_writes(random: Random) -> list[WriterCase]:
         length = max(0, len(encode_entries(entries)) + random.randint(-2, 3))
         if entries and random.random() < 0.4:
             at = random.randrange(len(entries))
-            field = random.choice(["kind", "least", "most", "start", "step", "stride"])
-            value = random.choice([0, 1, 6, 255] if field == "kind" else [0, 1, 1001, 4096])
+            field = random.choice(["kind", "least", "most", "start", "step", "stride", "skip"])
+            value = random.choice([0, 1, 2, 6, 7, 255] if field == "kind" else [0, 1, 1001, 4095, 4096])
             entries[at] = entries[at]._replace(**{field: value})
         made.append(WriterCase("random", entries, len(entries), bytes(length)))
     return made
@@ -107,15 +111,14 @@ def random_writes(random: Random) -> list[WriterCase]:
 
 def encode_entries(entries: list[RawRecord]) -> bytes:
     """The sheet of entries that the writer takes."""
-    result = write(entries, len(entries), bytes(1600))
+    result = write(entries, len(entries), bytes(LONGEST_SHEET))
     assert not isinstance(result.answer, Refusal)
     return result.buffer[:result.answer]
 
 
 def all_cases() -> bytes:
     random = Random(SEED)
-    lines = readings.parse_file(readings.READINGS)
-    sheets = [line.sheet for line in lines]
+    sheets = [case.sheet for case in kept_cases()] + [encode_all(records) for records in LONGEST]
     sheets += truncations() + kinds() + random_sheets(random)
     writes = WRITER_CASES + random_writes(random)
     return b"".join(map(reader_case, sheets)) + b"".join(map(writer_case, writes))

@@ -20,9 +20,10 @@ from kept import kept_cases
 from pumdalin.answers import Refusal
 from pumdalin.inputs import encode_parameters
 from pumdalin.records import encode_all, two_bytes_each
+from sheet import skip_of
 from stages import Nest, State, at_end, first_state, nest_of, next_state
 from stored import main
-from tree import choices_in, height, loops_directly_in, tree
+from tree import LoopNode, choices_in, height, loops_directly_in, loops_in, tree
 from trips import trips_of
 
 SEED = 2052
@@ -32,8 +33,8 @@ BUDGET = 1_000_000
 # a case's states have to fit in the program's space, which is that of the longest text
 MOST_STAGES = 150
 # at least so many random sheets of each sort
-EACH_SORT = 150
-SORTS = ("walked", "closed", "choice with a loop", "four deep", "no trip")
+EACH_SORT = 130
+SORTS = ("walked", "closed", "choice with a loop", "four deep", "no trip", "skip inside")
 
 
 def states_of(nest: Nest) -> list[State]:
@@ -75,8 +76,14 @@ def sorts_of(nest: Nest) -> set[str]:
         any(choice.holds_loop() for choice in choices_in(body)),
         any(height(loop) == 3 for loop in outermost),
         any(trips_of(node.loop, [], nest.parameters) == 0 for node in outermost),
+        any(may_skip(node, nest) for outer in outermost for node in loops_in(outer.body)),
     )
     return {sort for sort, holds in zip(SORTS, tests) if holds}
+
+
+def may_skip(node: LoopNode, nest: Nest) -> bool:
+    """Whether it may make no trip and then costs other than its start."""
+    return skip_of(node.loop) != node.loop.start and nest.known[node.position].difference.smallest < 0
 
 
 def random_cases(random: Random) -> Iterator[Case]:

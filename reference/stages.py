@@ -13,7 +13,7 @@ from newton import newton_sum
 from pumdalin.answers import Refusal
 from pumdalin.inputs import Parameters
 from pumdalin.records import Choice, End, Loop, NextArm, Record, Work
-from trips import NOTHING, Bounds, both, index_of, to_visit, trips_of
+from trips import NOTHING, Bounds, both, entry_cost, index_of, to_visit, trips_of
 
 
 @dataclass(frozen=True)
@@ -156,9 +156,9 @@ def open_indexes(nest: Nest, frames: tuple[Frame, ...]) -> list[int]:
 
 
 def pass_loop(nest: Nest, loop: Loop, state: State) -> State:
-    """Adds start; then opens the first trip, or goes on after the loop's end."""
-    around = state.current.plus(both(loop.start))
+    """Adds start and opens the first trip; or adds skip and goes on after the loop's end."""
     trips = trips_of(loop, open_indexes(nest, state.frames), nest.parameters)
+    around = state.current.plus(both(entry_cost(loop, trips)))
     if trips == 0:
         return replace(state, position=nest.ends[state.position] + 1, current=around)
     frame = LoopFrame(state.position, 0, (), around)

@@ -12,8 +12,9 @@ from functools import cache
 from pathlib import Path
 from typing import BinaryIO, Callable, Union
 
-from agreement_calls import Call, FiguresCall, TextCall
-from calls import Called, TextCalled, c_call, text_call
+from agreement_calls import Call, FiguresCall, TextCall, WithoutSkipsCall, WithSkipsCall
+from calls import Called, Lent, c_call, text_call
+from converters import with_skips_call, without_skips_call
 from pumdalin.records import PARAMETERS, signed, unsigned
 from questions import GUARD, NUMBER_LENGTH, SCALAR_LENGTH, numbers
 
@@ -47,17 +48,25 @@ def make_call(questions: BinaryIO) -> Made:
     return Made(call, number, blocks)
 
 
+# The calls that take a block and store into two.
+LENT_CALLS = {
+    TextCall.number: text_call,
+    WithSkipsCall.number: with_skips_call,
+    WithoutSkipsCall.number: without_skips_call,
+}
+
+
 # Tests ask the same again and again.
 @cache
 def reckoned(
     call: int, scalars: tuple[int, ...], blocks: tuple[bytes, ...]
-) -> Union[Called, TextCalled]:
+) -> Union[Called, Lent]:
     """The number, and after it the blocks that are lent to be written, which are the last."""
     if call == FiguresCall.number:
         sheet, area = blocks
         return c_call(sheet, scalars[:PARAMETERS], scalars[PARAMETERS], area)
-    assert call == TextCall.number and not scalars
-    return text_call(*blocks)
+    assert not scalars
+    return LENT_CALLS[call](*blocks)
 
 
 def replies_to(questions: bytes, spoil: Callable[[Made], None] = lambda made: None) -> bytes:

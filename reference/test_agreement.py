@@ -8,17 +8,20 @@ from typing import Callable
 from unittest import mock
 
 from agreement import listings_in
-from agreement_calls import FiguresCall, TextCall
+from agreement_calls import FiguresCall, TextCall, WithoutSkipsCall, WithSkipsCall
 from agreement_cases import Expected, Trial, kept_trials, listing_cases, random_trials
 from agreement_checks import Difference, Tool, Unusable, check_listing, check_trials
 from asking import Ask, Outcome, program_at
 from calls import program_text
+from questions import GUARD
 from reasons import LINES, read_reason
 from stand_in import FolderCase, Made, flipped, replies_to, shell_program
 
 EXAMPLES = Path(__file__).parent.parent / "examples" / "listings"
 CASES = 60
 SEED = 5
+# of a random case
+CALLS = 4
 
 
 @cache
@@ -65,6 +68,18 @@ def buffer_before_area(made: Made) -> None:
     made.number = 12 if made.call == TextCall.number and made.number == 9 else made.number
 
 
+def back_without_skips(made: Made) -> None:
+    """A sheet for which it has to be 10."""
+    made.number = 0 if made.number == 10 else made.number
+
+
+def area_first(made: Made) -> None:
+    """9 for a short area where another refusal comes before it."""
+    is_converter = made.call in (WithSkipsCall.number, WithoutSkipsCall.number)
+    if is_converter and made.number and len(made.blocks[2]) < 2 * len(GUARD) + 8:
+        made.number = 9
+
+
 class RandomCases(unittest.TestCase):
     def compare(self, tried: Ask) -> str:
         return shown_by(check_trials, Tool(tried, None), trials())
@@ -93,17 +108,32 @@ class RandomCases(unittest.TestCase):
 
     def test_wrong_text(self) -> None:
         for block, position, words in [
-            (1, 0, "\nlibrary:  [0-9]+ bytes, b'"),
-            (2, 0, "\nlibrary:  [0-9]+ bytes, b'"),
-            (2, 7, "\nlibrary:  [0-9]{17} bytes, b'"),
+            (1, 0, "\nlibrary:  [0-9]+ bytes, b['\"]"),
+            (2, 0, "\nlibrary:  [0-9]+ bytes, b['\"]"),
+            (2, 7, "\nlibrary:  [0-9]{17} bytes, b['\"]"),
             (2, 8, "the area from byte 8 on changed|bytes after the area changed"),
             (1, -1, "bytes before the text changed"),
             (0, 0, "the input from byte 0 on changed"),
         ]:
             self.check_found(flipped(TextCall, block, position), words)
         self.check_found(flipped(TextCall, 1, 0, when_refused=True),
-                         "returned (9|12), the text from byte 0 on changed")
+                         "returned (9|12), (the text from byte 0 on|bytes after the text) changed")
         self.check_found(buffer_before_area, "reckoned: returned 9\nlibrary:  returned 12")
+
+    def test_wrong_conversion(self) -> None:
+        for call in (WithSkipsCall, WithoutSkipsCall):
+            for block, position, words in [
+                (1, 0, "\nlibrary:  [0-9]+ bytes, 0"), (2, 0, "\nlibrary:  [0-9]+ bytes, "),
+                (2, 7, "\nlibrary:  [0-9]{17} bytes, "),
+                (2, 8, "the area from byte 8 on changed|bytes after the area changed"),
+                (1, -1, "bytes before the new sheet changed"),
+                (0, 0, "the sheet from byte 0 on changed"),
+            ]:
+                self.check_found(flipped(call, block, position), words)
+            self.check_found(flipped(call, 1, 0, when_refused=True),
+                             "returned [0-9]+, (the new sheet from byte 0 on|bytes after the new sheet) changed")
+        self.check_found(back_without_skips, "reckoned: returned 10\nlibrary:  [0-9]+ bytes, ")
+        self.check_found(area_first, "reckoned: returned (1|2|3|4|5|10)\nlibrary:  returned 9")
 
     def test_too_little_and_too_much(self) -> None:
         shorter = answering(lambda data: replies_to(data)[:-1])
@@ -182,14 +212,14 @@ class Failing(FolderCase):
             ("kill -SEGV $$", "was ended by signal 11, Segmentation fault"),
             ("exit 2", "ended with exit status 2"),
         ]:
-            for answered, call in [(4, trials()[2].calls[0]), (5, trials()[2].calls[1])]:
-                shown = self.shown_after(answered, then)
+            for number, call in enumerate(trials()[2].calls):
+                shown = self.shown_after(2 * CALLS + number, then)
                 self.assertTrue(shown.startswith(f"differs: {call.heading()}\n"), shown)
                 self.assertIn(call.sheet_text(), shown)
                 self.assertTrue(shown.endswith(f"\nlibrary:  {words}"), shown)
 
     def test_library_at_the_end(self) -> None:
-        shown = self.shown_after(2 * CASES, "kill -SEGV $$")
+        shown = self.shown_after(CALLS * CASES, "kill -SEGV $$")
         self.assertEqual(shown, "differs: the library's program, when all is answered, "
                                 "was ended by signal 11, Segmentation fault")
 

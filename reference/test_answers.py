@@ -14,9 +14,10 @@ TOLD = 0xA1B2C3D4
 TOUCHED = b"\xee"
 END = 6
 
-# Each call returns TOLD plus a bit for each null pointer. Without one it stores its numbers, 4 bytes
-# each, in the area and touches the bytes around it. The budget END ends the program on the spot.
-LIBRARY = """
+# Each call returns a number of its own plus a bit for each null pointer. Without one it stores its
+# numbers, 4 bytes each, in the area and touches the bytes around it. The budget END ends the program
+# on the spot.
+FIGURES_CALL = """
 #include <stdlib.h>
 #include "pumdalin.h"
 
@@ -40,18 +41,32 @@ uint32_t pumdalin_figures(const uint8_t *sheet, size_t sheet_length,
     return 0xA1B2C3D4 + (sheet == NULL) + 2 * (answer == NULL);
 }
 
-uint32_t pumdalin_text(const uint8_t *input, size_t input_length,
-                       uint8_t *text, size_t text_length, uint8_t *answer, size_t answer_length)
+"""
+
+# All that store a text or a sheet; each puts what it reads first at the start of the buffer.
+LENT_CALL = """
+uint32_t pumdalin_NAME(const uint8_t *data, size_t data_length,
+                       uint8_t *buffer, size_t buffer_length, uint8_t *answer, size_t answer_length)
 {
-    const uint32_t told[] = {(uint32_t)input_length, (uint32_t)text_length,
+    const uint32_t told[] = {(uint32_t)data_length, (uint32_t)buffer_length,
                              (uint32_t)answer_length};
-    if (input != NULL && text != NULL && answer != NULL) {
-        text[0] = input[0];
+    if (data != NULL && buffer != NULL && answer != NULL) {
+        buffer[0] = data[0];
         tell(answer, answer_length, told, 3);
     }
-    return 0xA1B2C3D4 + (input == NULL) + 2 * (text == NULL) + 4 * (answer == NULL);
+    return RETURNED + (data == NULL) + 2 * (buffer == NULL) + 4 * (answer == NULL);
 }
 """
+LENT_CALLS = {1: "text", 2: "with_skips", 3: "without_skips"}
+
+
+def told_by(call: int) -> int:
+    """What the call with this number returns, without a null pointer."""
+    return TOLD + 256 * call
+
+
+LIBRARY = FIGURES_CALL + "".join(
+    LENT_CALL.replace("NAME", name).replace("RETURNED", str(told_by(call))) for call, name in LENT_CALLS.items())
 
 FIGURES = question(0, [-1, 2, -32768, 32767, 2 ** 32 - 1], [b"abc", bytes(30)])
 TEXT = question(1, [], [b"xyz", b"abcde", bytes(12)])
@@ -80,19 +95,22 @@ class Answers(unittest.TestCase):
         self.assertEqual(read_reply(written, [3, 30]), (TOLD, [Guarded(GUARD, b"abc", GUARD), area]))
         self.assertEqual(failure, "")
 
-    def test_text(self) -> None:
+    def test_lent(self) -> None:
+        """Each call that stores a text or a sheet is the one with its number."""
         area = Guarded(GUARD[:-1] + TOUCHED, numbers(3, 5, 12), TOUCHED + GUARD[1:])
-        written, failure = self.ask(TEXT, 4 + 3 + 5 + 12 + 6 * len(GUARD))
-        self.assertEqual(read_reply(written, [3, 5, 12]), (TOLD, [
-            Guarded(GUARD, b"xyz", GUARD), Guarded(GUARD, b"xbcde", GUARD), area]))
-        self.assertEqual(failure, "")
+        for call in LENT_CALLS:
+            asked = question(call, [], [b"xyz", b"abcde", bytes(12)])
+            written, failure = self.ask(asked, 4 + 3 + 5 + 12 + 6 * len(GUARD))
+            self.assertEqual(read_reply(written, [3, 5, 12]), (told_by(call), [
+                Guarded(GUARD, b"xyz", GUARD), Guarded(GUARD, b"xbcde", GUARD), area]))
+            self.assertEqual(failure, "")
 
     def test_empty_blocks(self) -> None:
         """Each empty block, and no other, is a null pointer."""
-        for call, scalars, count in [(0, [0] * 5, 2), (1, [], 3)]:
+        for call, scalars, count in [(0, [0] * 5, 2)] + [(call, [], 3) for call in LENT_CALLS]:
             for nulls in range(1, 2 ** count):
                 blocks = [b"" if nulls >> i & 1 else b"block" for i in range(count)]
-                expected = reply(TOLD + nulls, blocks)
+                expected = reply(told_by(call) + nulls, blocks)
                 found = self.ask(question(call, scalars, blocks), len(expected))
                 self.assertEqual(found, Outcome(expected))
 
@@ -108,9 +126,10 @@ class Answers(unittest.TestCase):
         for wrong, message in [
             (FIGURES[:-1], "a question is cut off"),
             (FIGURES[:3], "a question is cut off"),
-            (question(2, [], []), "there is no call with this number"),
+            (question(4, [], []), "there is no call with this number"),
             (question(0, [0] * 4, [b"", b""]), "another number of scalars or blocks"),
             (question(1, [], [b"", b""]), "another number of scalars or blocks"),
+            (question(3, [0], [b"", b"", b""]), "another number of scalars or blocks"),
         ]:
             run = subprocess.run([self.path], input=wrong, capture_output=True)
             self.assertEqual((run.returncode, run.stdout), (2, b""))

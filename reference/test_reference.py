@@ -17,7 +17,7 @@ import consistency
 import known_reasons
 import stages
 import trips
-from calls import Called, TextCalled, answer, c_call, program_text, reports, text_call
+from calls import Called, Lent, answer, c_call, program_text, reports, text_call
 from example_calls import calls_file
 from example_readings import known_file, readings_file, telling_file
 from example_states import states_file
@@ -26,7 +26,7 @@ from known import MARKED, OTHERS, TRIANGLE, UNIT, ZERO, Known, form, loop, span
 from known_reasons import KnownReasons
 from nest import ceiling_refusal, loop_reports
 from pumdalin.answers import Figures, Refusal
-from pumdalin.records import COST_LIMIT, END, LOOP, WORK, Choice, End, Form, NextArm, encode_all
+from pumdalin.records import COST_LIMIT, END, LOOP, SKIP_LOOP, WORK, Choice, End, Form, NextArm, encode, encode_all
 from readings import READINGS, TELLING, parse_file, parse_requests
 from reasons import OFFSET_LIMIT, HoldsLoop, TooFewTrips, UnevenIn, read_reason
 from sheet import BLANK, Part, RawRecord, SheetEnd, Written, raw, read, record_at, write
@@ -122,6 +122,9 @@ class Reasons(unittest.TestCase):
     def test_far_offsets(self) -> None:
         self.check(known_reasons.FAR)
 
+    def test_skips(self) -> None:
+        self.check(known_reasons.SKIPS)
+
     def test_one_line_after_the_loop(self) -> None:
         """All tests fail in i, two in j; each has one line, and a closed loop has none."""
         records = [
@@ -194,6 +197,12 @@ class RecordReader(unittest.TestCase):
         self.assertEqual(record_at(sheet, 1), Refusal(2, 1))
         self.assertEqual(record_at(sheet[:54], 50), Refusal(1, 50))
 
+    def test_skip(self) -> None:
+        sheet = encode(span(0, 9, skip=1))
+        self.assertEqual(record_at(sheet, 0), Part(SKIP_LOOP, 1, 26))
+        self.assertEqual(record_at(sheet[:-1], 0), Refusal(1, 0))
+        self.assertEqual(record_at(b"\x07" + bytes(30), 0), Refusal(2, 0))
+
 
 class Writer(unittest.TestCase):
     def refused(self, entries: list[RawRecord], number: int, place: int) -> None:
@@ -213,9 +222,10 @@ class Writer(unittest.TestCase):
 
     def test_foreign_fields(self) -> None:
         values = [("least", 1), ("most", 1), ("start", 1), ("step", 1), ("stride", 1),
-                  ("lower", Form(1)), ("upper", form(p=(0, 0, 0, 1)))]
-        own = {1: {"least", "most"}, 2: {"start", "step", "stride", "lower", "upper"}}
-        for kind in range(1, 6):
+                  ("lower", Form(1)), ("upper", form(p=(0, 0, 0, 1))), ("skip", 1)]
+        loop_fields = {"start", "step", "stride", "lower", "upper"}
+        own = {1: {"least", "most"}, 2: loop_fields, 6: loop_fields | {"skip"}}
+        for kind in range(1, 7):
             for name, value in values:
                 entry = RawRecord(kind=kind)._replace(**{name: value})
                 result = write([raw(Choice()), entry], 2, bytes(40)).answer
@@ -243,10 +253,10 @@ class Calls(unittest.TestCase):
 
     def test_text_of_long_input(self) -> None:
         header = bytes(8) + (100).to_bytes(4, "little")
-        longest = encode_all([loop(Form(), Form(-1)), End()] * 32)
-        largest = encode_all([loop(Form(), Form(-1))] * 64)
+        longest = encode_all([loop(Form(), Form(-1), skip=1), End()] * 32)
+        largest = encode_all([loop(Form(), Form(-1), skip=1)] * 64)
         for sheet in (longest + bytes(2000), largest + b"\x03" * 70):
-            self.assertEqual(program_text(header + sheet), program_text((header + sheet)[:1613]))
+            self.assertEqual(program_text(header + sheet), program_text((header + sheet)[:1741]))
 
 
 class TextCalls(unittest.TestCase):
@@ -254,7 +264,7 @@ class TextCalls(unittest.TestCase):
     TEXT = b"best 0 worst 0 visits 0\n"
     LENGTH = b"\x18\0\0\0\0\0\0\0"
 
-    def called(self, data: bytes, buffer_length: int, area_length: int) -> TextCalled:
+    def called(self, data: bytes, buffer_length: int, area_length: int) -> Lent:
         return text_call(data, b"\xbb" * buffer_length, b"\xaa" * area_length)
 
     def test_stored(self) -> None:

@@ -5,6 +5,7 @@ from typing import NamedTuple
 from nest import LoopFacts, facts, subtract, trips_for, value
 from pumdalin.inputs import Parameters
 from pumdalin.records import Loop, Record, Work
+from sheet import skip_of
 from tree import Body, ChoiceNode, LoopNode, tree
 
 
@@ -52,6 +53,11 @@ def trips_of(loop: Loop, indexes: list[int], parameters: Parameters) -> int:
     return trips_for(value(difference, indexes, parameters), loop.stride)
 
 
+def entry_cost(loop: Loop, trip_count: int) -> int:
+    """Start, or skip in its place when there is no trip (document 02, C-12)."""
+    return loop.start if trip_count > 0 else skip_of(loop)
+
+
 def index_of(loop: Loop, counter: int, indexes: list[int], parameters: Parameters) -> int:
     """The loop's index in the trip with the given counter; the first is 0."""
     return value(loop.lower, indexes, parameters) + counter * loop.stride
@@ -82,9 +88,10 @@ def choice_time(
 
 
 def loop_time(node: LoopNode, indexes: list[int], parameters: Parameters, meter: Meter) -> Bounds:
-    """Start, plus for each trip the body and one step."""
-    total = both(node.loop.start)
-    for counter in range(trips_of(node.loop, indexes, parameters)):
+    """Start, plus for each trip the body and one step; with no trip skip."""
+    trip_count = trips_of(node.loop, indexes, parameters)
+    total = both(entry_cost(node.loop, trip_count))
+    for counter in range(trip_count):
         meter.add_one()
         index = index_of(node.loop, counter, indexes, parameters)
         total = total.plus(body_time(node.body, indexes + [index], parameters, meter))

@@ -1,11 +1,12 @@
 """Random sheets of nests whose loops are mostly walked, for reasons of all sorts."""
 
+from dataclasses import replace
 from random import Random
 from typing import NamedTuple
 
 import generate
-from generate import Case, cost, factors, work
-from nest import Range, form_range, index_range
+from generate import Case, cost, factors, skip, work
+from nest import Range, asked_difference, form_range, index_range
 from pumdalin.inputs import Parameters
 from pumdalin.records import MOST_LOOPS_DEEP, MOST_RECORDS, Choice, End, Form, Loop, NextArm, Record, encode_all
 
@@ -36,13 +37,14 @@ def slant(random: Random, aim: Aim, enclosing: int, stride: int) -> tuple[int, .
     return tuple(own)
 
 
-def smallest_difference(random: Random, aim: Aim, enclosing: int, stride: int) -> int:
+def smallest_difference(random: Random, aim: Aim, enclosing: int, loop: Loop) -> int:
     """Mostly what closing asks or a little more, at times less; the outermost loop has trips."""
     if not enclosing:
-        return stride * random.randint(1, 4)
+        return loop.stride * random.randint(1, 4)
+    asked = asked_difference(loop)
     if random.random() < aim.few:
-        return -stride - random.randint(1, 3)
-    return -stride + random.choice([0, 0, 1, stride, random.randint(0, 3 * stride)])
+        return asked - random.randint(1, 3)
+    return asked + random.choice([0, 0, 1, loop.stride, random.randint(0, 3 * loop.stride)])
 
 
 def nested_loop(random: Random, aim: Aim, ranges: list[Range], parameters: Parameters) -> Loop:
@@ -52,9 +54,11 @@ def nested_loop(random: Random, aim: Aim, ranges: list[Range], parameters: Param
     lower = Form(random.randint(-4, 4), factors(random, len(ranges), 1), generate.parameter_factors(random))
     change = slant(random, aim, len(ranges), stride)
     spread = form_range(Form(0, change), ranges, parameters).smallest
-    width = smallest_difference(random, aim, len(ranges), stride) - spread
+    start = cost(random)
+    loop = Loop(start, cost(random), stride, lower, lower, skip(random, start))
+    width = smallest_difference(random, aim, len(ranges), loop) - spread
     upper = tuple(l + c for l, c in zip(lower.indexes, change))
-    return Loop(cost(random), cost(random), stride, lower, Form(lower.constant + width, upper, lower.parameters))
+    return replace(loop, upper=Form(lower.constant + width, upper, lower.parameters))
 
 
 def nest(random: Random, aim: Aim, ranges: list[Range], parameters: Parameters) -> list[Record]:

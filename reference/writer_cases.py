@@ -3,15 +3,18 @@
 from typing import NamedTuple
 
 from known import form, loop, span
-from pumdalin.records import Choice, End, Form, NextArm, Work
+from pumdalin.records import SKIP_LOOP, Choice, End, Form, NextArm, Work
 from sheet import RawRecord, raw
 
 WORK_ENTRY = raw(Work(1, 2))
 LOOP_ENTRY = raw(span(0, 3))
+SKIP_ENTRY = raw(span(0, 3, start=3, skip=1))
 END_ENTRY = raw(End())
 CHOICE_ENTRY = raw(Choice())
 NEXT_ENTRY = raw(NextArm())
-FULL_LOOP = raw(loop(form(-2, p=(1, -1, 127, -128)), form(300, p=(-3, 4, 0, 5)), 1000, 4095, 258))
+FULL_FORMS = form(-2, p=(1, -1, 127, -128)), form(300, p=(-3, 4, 0, 5))
+FULL_LOOP = raw(loop(*FULL_FORMS, 1000, 4095, 258))
+FULL_SKIP_LOOP = raw(loop(*FULL_FORMS, 1000, 4095, 258, 769))
 
 
 class WriterCase(NamedTuple):
@@ -28,7 +31,7 @@ def case(tells: str, entries: list[RawRecord], length: int = 4) -> WriterCase:
 
 def loop_case(tells: str, entry: RawRecord) -> WriterCase:
     """A loop of one record, closed, in a buffer that is just long enough."""
-    return case(tells, [entry, END_ENTRY], 26)
+    return case(tells, [entry, END_ENTRY], 28 if entry.kind == SKIP_LOOP else 26)
 
 
 COUNTS = [
@@ -49,15 +52,18 @@ BUFFERS = [
     case("buffer one shorter", [WORK_ENTRY], 4),
     case("buffer longer", [WORK_ENTRY], 8),
     case("no buffer", [WORK_ENTRY], 0),
-    case("all kinds", [CHOICE_ENTRY, LOOP_ENTRY, WORK_ENTRY, END_ENTRY, NEXT_ENTRY, END_ENTRY], 36),
+    case("all kinds", [CHOICE_ENTRY, LOOP_ENTRY, WORK_ENTRY, END_ENTRY, NEXT_ENTRY, SKIP_ENTRY, END_ENTRY, END_ENTRY],
+         65),
     loop_case("a loop's fields in order, signed ones", FULL_LOOP),
+    loop_case("a loop's fields in order, skip last", FULL_SKIP_LOOP),
+    case("a loop with a skip, buffer one shorter", [SKIP_ENTRY, END_ENTRY], 27),
 ]
 
 KINDS = [
     case("kind 0", [RawRecord(kind=0)]),
-    case("kind 6", [RawRecord(kind=6)]),
+    case("kind 7", [RawRecord(kind=7)]),
     case("kind 255 after a work", [WORK_ENTRY, RawRecord(kind=255)]),
-    case("2 before 3", [RawRecord(kind=6, least=1, stride=2000)]),
+    case("2 before 3", [RawRecord(kind=7, least=1, stride=2000)]),
 ]
 
 FIELDS = [
@@ -74,19 +80,31 @@ FIELDS = [
     loop_case("stride 0", LOOP_ENTRY._replace(stride=0)),
     loop_case("stride 1,000", LOOP_ENTRY._replace(stride=1000)),
     loop_case("stride 1,001", LOOP_ENTRY._replace(stride=1001)),
+    loop_case("skip 4,095", SKIP_ENTRY._replace(skip=4095)),
+    loop_case("skip 4,096", SKIP_ENTRY._replace(skip=4096)),
+    loop_case("skip 65,535", SKIP_ENTRY._replace(skip=65535)),
+    loop_case("skip 0", SKIP_ENTRY._replace(skip=0)),
+    loop_case("skip equal to start", SKIP_ENTRY._replace(skip=3)),
+    loop_case("kind 2 with a skip equal to start", LOOP_ENTRY._replace(start=3, skip=3)),
+    loop_case("start 4,096 of kind 6", SKIP_ENTRY._replace(start=4096)),
+    loop_case("stride 0 of kind 6", SKIP_ENTRY._replace(stride=0)),
+    loop_case("lower form's own depth of kind 6", SKIP_ENTRY._replace(lower=form(i=1))),
     loop_case("lower form's own depth", LOOP_ENTRY._replace(lower=form(i=1))),
     loop_case("upper form's depth 3", LOOP_ENTRY._replace(upper=form(k=-1))),
     case("enclosing depth",
          [LOOP_ENTRY, raw(loop(form(i=-1), form(i=1))), END_ENTRY, END_ENTRY], 52),
+    case("enclosing depth of kind 6, a record's offset after it",
+         [SKIP_ENTRY, raw(loop(form(i=-1), form(i=1))), raw(Work(2, 1))], 60),
     case("own depth 2", [LOOP_ENTRY, raw(loop(form(), form(j=1)))], 30),
     case("a choice is no depth", [CHOICE_ENTRY, raw(loop(form(), form(i=1)))], 30),
 ]
 
-OWN = {1: {"least", "most"}, 2: {"start", "step", "stride", "lower", "upper"}}
+LOOP_FIELDS = {"start", "step", "stride", "lower", "upper"}
+OWN = {1: {"least", "most"}, 2: LOOP_FIELDS, 6: LOOP_FIELDS | {"skip"}}
 VALUES = {"least": 1, "most": 1, "start": 1, "step": 1, "stride": 1,
-          "lower": Form(1), "upper": form(p=(0, 0, 0, -1))}
+          "lower": Form(1), "upper": form(p=(0, 0, 0, -1)), "skip": 1}
 PLAIN_ENTRIES = {"work": WORK_ENTRY, "loop": LOOP_ENTRY, "end": END_ENTRY,
-                 "choice": CHOICE_ENTRY, "next arm": NEXT_ENTRY}
+                 "choice": CHOICE_ENTRY, "next arm": NEXT_ENTRY, "loop of kind 6": SKIP_ENTRY}
 
 
 def foreign_cases() -> list[WriterCase]:
@@ -110,16 +128,19 @@ PLACES = [
     case("next arm with nothing open", [NEXT_ENTRY]),
     case("next arm in a loop in a choice", [CHOICE_ENTRY, LOOP_ENTRY, NEXT_ENTRY]),
     case("fifth loop depth", [LOOP_ENTRY] * 5),
+    case("fifth loop depth, kinds 2 and 6 in turn", [LOOP_ENTRY, SKIP_ENTRY] * 2 + [SKIP_ENTRY]),
+    case("next arm in a loop of kind 6", [CHOICE_ENTRY, SKIP_ENTRY, NEXT_ENTRY]),
     case("3 before 5 at the fifth depth", [LOOP_ENTRY] * 4 + [LOOP_ENTRY._replace(stride=0)]),
     case("fifth depth, factors of all three depths",
          [LOOP_ENTRY] * 4 + [raw(loop(form(i=1, j=1, k=1), form()))]),
     case("ninth open record, a choice", [CHOICE_ENTRY] * 9),
     case("ninth open record, a loop", [CHOICE_ENTRY] * 8 + [LOOP_ENTRY]),
+    case("ninth open record, a loop of kind 6", [CHOICE_ENTRY] * 8 + [SKIP_ENTRY]),
     case("eight open", [CHOICE_ENTRY] * 8 + [END_ENTRY] * 8, 16),
     case("open at the end", [WORK_ENTRY, CHOICE_ENTRY]),
     case("a loop open at the end", [LOOP_ENTRY, WORK_ENTRY], 40),
     case("3 before 5", [END_ENTRY._replace(most=1)]),
-    case("5 of the first before 2 of the second", [END_ENTRY, RawRecord(kind=7)]),
+    case("5 of the first before 2 of the second", [END_ENTRY, RawRecord(kind=9)]),
     case("open at the end before 9", [CHOICE_ENTRY], 0),
 ]
 

@@ -30,11 +30,12 @@ impl Walk<'_> {
 
     /// One entry of a loop. Once the visits pass the budget it ends at once, since no figure is asked for then.
     fn entry(&mut self, at: usize) -> Sums {
-        let [start, step] = self.plan.records[at].costs.map(u64::from);
+        let [start, step] = self.plan.records[at].costs;
+        let step = u64::from(step);
         let entered = &self.plan.loops[self.plan.records[at].number as usize];
         let trips = entered.trips(&self.counters);
         let mut visited = [[0; 2]; DEEPEST];
-        let mut total = [start; 2];
+        let mut total = [entered.entry_cost(start, trips); 2];
         let count = entered.visited(trips);
         for counter in 0..count {
             self.visits += 1;

@@ -10,10 +10,14 @@ pub const LOOP: u8 = 2;
 pub const END: u8 = 3;
 pub const CHOICE: u8 = 4;
 pub const NEXT_ARM: u8 = 5;
+/// In a sheet alone: a record of it is a loop with a skip.
+const SKIP_LOOP: u8 = 6;
 
 const MOST_RECORDS: usize = 64;
 pub const MOST_OPEN: usize = 8;
 pub const DEEPEST: usize = 4;
+/// A loop's body before its skip.
+const LOOP_LENGTH: usize = 24;
 const MOST_CYCLES: u16 = 4095;
 const LARGEST_STRIDE: i64 = 1000;
 const MOST_TRIPS: i64 = 2048;
@@ -36,6 +40,8 @@ pub struct Record {
 pub struct Loop {
     /// How many loops are open around it.
     pub depth: usize,
+    /// What it costs in place of its start where it makes no trip.
+    pub skip: u16,
     pub stride: i64,
     /// Upper minus lower bound where all counters are 0.
     pub base: i64,
@@ -53,6 +59,11 @@ impl Loop {
             d if self.stride == 1 => d as u64 + 1,
             d => d as u64 / self.stride as u64 + 1,
         }
+    }
+
+    /// What entering it costs, given its trips.
+    pub fn entry_cost(&self, start: u16, trips: u64) -> u64 {
+        if trips == 0 { self.skip as u64 } else { start as u64 }
     }
 
     /// How many of its trips are visited.
@@ -105,12 +116,13 @@ impl Around {
         self.start[depth] = start;
         self.pushes[depth] = [0; DEEPEST];
         self.pushes[depth][depth] = stride;
-        (Loop { depth, stride, base, pushes, limit: 1 }, smallest, largest)
+        (Loop { depth, skip: 0, stride, base, pushes, limit: 1 }, smallest, largest)
     }
 
     /// What a loop means for the loops around it: it keeps them from being closed, or they visit a trip more for it.
-    fn limit_outer(&self, inner: &Loop, smallest: i64, choice_depth: usize, loops: &mut [Loop]) {
-        let mut even = smallest >= -inner.stride;
+    fn limit_outer(&self, inner: &Loop, start: u16, smallest: i64, choice_depth: usize, loops: &mut [Loop]) {
+        let asked = if inner.skip == start { -inner.stride } else { 0 };
+        let mut even = smallest >= asked;
         for depth in (0..inner.depth).rev() {
             even = even && (inner.stride == 1 || inner.pushes[depth] % inner.stride == 0);
             let limit = &mut loops[self.numbers[depth]].limit;
@@ -168,16 +180,19 @@ impl Reader<'_> {
         let stride = number(&body[4..]) as i64;
         let lower = Form::read(&body[6..15], self.parameters);
         let upper = Form::read(&body[15..24], self.parameters);
+        let skip = if body.len() > LOOP_LENGTH { number(&body[LOOP_LENGTH..]) } else { costs[0] };
         let enclosed = lower.enclosed_by(self.depth) && upper.enclosed_by(self.depth);
-        if costs[0] > MOST_CYCLES || costs[1] > MOST_CYCLES || !(1..=LARGEST_STRIDE).contains(&stride) || !enclosed {
+        let cheap = costs[0] <= MOST_CYCLES && costs[1] <= MOST_CYCLES && skip <= MOST_CYCLES;
+        if !cheap || !(1..=LARGEST_STRIDE).contains(&stride) || !enclosed {
             return Err(3);
         }
         self.opens(LOOP, choice_depth)?;
-        let (entered, smallest, largest) = self.around.enter(self.depth, self.plan.loops.len(), stride, &lower, &upper);
+        let (mut entered, smallest, largest) = self.around.enter(self.depth, self.plan.loops.len(), stride, &lower, &upper);
+        entered.skip = skip;
         if largest >= MOST_TRIPS * stride && self.over_ceiling.is_none() {
             self.over_ceiling = Some(at);
         }
-        self.around.limit_outer(&entered, smallest, choice_depth, &mut self.plan.loops);
+        self.around.limit_outer(&entered, costs[0], smallest, choice_depth, &mut self.plan.loops);
         self.plan.loops.push(entered);
         self.depth += 1;
         Ok(())
@@ -194,7 +209,8 @@ impl Reader<'_> {
                     return Err(3);
                 }
             }
-            LOOP => {
+            LOOP | SKIP_LOOP => {
+                record.kind = LOOP;
                 record.costs = [number(body), number(&body[2..])];
                 self.enters(body, record.costs, choice_depth, at)?;
             }
@@ -209,7 +225,8 @@ impl Reader<'_> {
 fn body_length(kind: u8) -> Option<usize> {
     match kind {
         WORK => Some(4),
-        LOOP => Some(24),
+        LOOP => Some(LOOP_LENGTH),
+        SKIP_LOOP => Some(LOOP_LENGTH + 2),
         END | CHOICE | NEXT_ARM => Some(0),
         _ => None,
     }

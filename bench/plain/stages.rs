@@ -53,10 +53,10 @@ impl State {
 
     /// A loop's record; whether a visit begins.
     fn enter(&mut self, plan: &Plan, record: &Record) -> bool {
-        let start = record.costs[0] as u64;
         let entered = &plan.loops[record.number as usize];
-        self.sums = plus(self.sums, [start; 2]);
-        if entered.trips(&self.counters) == 0 {
+        let trips = entered.trips(&self.counters);
+        self.sums = plus(self.sums, [entered.entry_cost(record.costs[0], trips); 2]);
+        if trips == 0 {
             self.at = record.partner as usize + 1;
             return false;
         }

@@ -27,8 +27,10 @@ Answer = Union[Figures, Refusal]
 
 # The refusals of the reader of sheets: what comes before the place is all that was read.
 READER_REFUSALS = range(1, 6)
+# Refused where a sheet is to have loops of kind 2 alone: a loop's skip differs from its start.
+SKIP_DIFFERS = 10
 # Refusals whose place is a record.
-PLACED_REFUSALS = range(1, 7)
+PLACED_REFUSALS = (*range(1, 7), SKIP_DIFFERS)
 # Refusals that do not depend on the parameters.
 FIXED_REFUSALS = (7, *READER_REFUSALS)
 

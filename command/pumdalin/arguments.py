@@ -1,11 +1,12 @@
 """Arguments that several commands share."""
 
 import argparse
+import os
 import re
 from typing import IO, NoReturn, Optional
 
 from pumdalin.errors import UNUSABLE
-from pumdalin.files import STANDARD, tell, write_text
+from pumdalin.files import STANDARD, STANDARD_OUTPUT, same_file, shown_name, tell, write_text
 from pumdalin.inputs import BUDGET_RANGE, LARGEST_BUDGET, PARAMETER_RANGE, STORED_BUDGET_RANGE
 from pumdalin.ranges import MOST_DIGITS, Range
 from pumdalin.records import PARAMETERS
@@ -63,6 +64,22 @@ def budget_value(text: str) -> int:
 def add_file(parser: argparse.ArgumentParser, name: str, what: str) -> None:
     parser.add_argument("file", metavar=name, nargs="?", default=STANDARD,
                         help=f"{what}; - or nothing reads the standard input")
+
+
+def add_bytes(parser: argparse.ArgumentParser) -> None:
+    parser.add_argument("--bytes", action="store_true", help="the file holds a sheet's bytes and not a listing")
+
+
+def add_output(parser: argparse.ArgumentParser) -> None:
+    parser.add_argument("--output", "-o", action=Once, metavar="FILE", help="the file to write; without it the standard output")
+
+
+def check_output(parser: argparse.ArgumentParser, given: argparse.Namespace, is_text: bool = False) -> None:
+    """A sheet's bytes do not go to a terminal, and what is read is not overwritten."""
+    if not given.output and not is_text and os.isatty(STANDARD_OUTPUT):
+        parser.error("the sheet's bytes would go to the terminal; write --output FILE, or > FILE")
+    if given.output and same_file(given.file, given.output):
+        parser.error(f"{shown_name(given.file)} would be overwritten; name another file after --output")
 
 
 def add_parameters(parser: argparse.ArgumentParser) -> None:

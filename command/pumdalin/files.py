@@ -3,6 +3,7 @@
 import contextlib
 import os
 import sys
+from typing import Optional
 
 from pumdalin.errors import CommandError
 
@@ -56,6 +57,18 @@ def write_file(path: str, data: bytes) -> None:
             with contextlib.suppress(OSError):
                 os.remove(written)
         raise CommandError(f"can't be written: {error.strerror}", shown_name(path)) from error
+
+
+def write_bytes(path: Optional[str], data: bytes) -> None:
+    """To a file, or to the standard output where none is named."""
+    if path:
+        write_file(path, data)
+    else:
+        write_output(data)
+
+
+def same_file(one: str, other: str) -> bool:
+    return os.path.exists(one) and os.path.exists(other) and os.path.samefile(one, other)
 
 
 def write_text(lines: list[str]) -> None:

@@ -2,12 +2,12 @@
 
 from typing import Optional
 
-from pumdalin.answers import HOLDS_LOOP, READER_REFUSALS, TOO_FEW_TRIPS, UNEVEN, Reason, Refusal
+from pumdalin.answers import HOLDS_LOOP, READER_REFUSALS, SKIP_DIFFERS, TOO_FEW_TRIPS, UNEVEN, Reason, Refusal
 from pumdalin.listing_reader import Entry, Listing
 from pumdalin.listing_text import record_text
 from pumdalin.records import (
-    BODY_LENGTH, COST_LIMIT, END, KIND_OF, LOOP, MOST_LOOPS_DEEP, NEXT_ARM, OPENS, STRIDE_LEAST, STRIDE_MOST,
-    Loop, Record, Work, decode, decode_before, open_after,
+    BODY_LENGTH, COST_LIMIT, END, LOOPS, MOST_LOOPS_DEEP, NEXT_ARM, OPENS, STRIDE_LEAST, STRIDE_MOST,
+    Loop, Record, Work, decode_at, decode_before, kind_of, loops_among, open_after,
 )
 
 # What to change in the code, and in the listing with it, so that the test which failed holds: choice {0}; loop {0}; loop {0} in
@@ -20,15 +20,22 @@ REASON_HINTS = {
     UNEVEN: "each trip of {1} changes upper - lower of {0} by an amount that the inner stride does not divide; in code "
             "and listing alike, choose the outer stride, or the factors in the inner bounds, so that it does",
 }
+# Too few trips of a loop whose skip differs from its start: one that may make none has too few.
+NO_TRIP_HINT = ("over the ranges of the indexes around it, {0} may make no trip, and its skip differs from its start; in code "
+                "and listing alike, limit the loops around it, or change its bounds, so that upper - lower >= 0 and it always "
+                "makes a trip; or let it cost its start without a trip too, and then upper - lower >= -stride is enough")
 
 
-def reason_hint(reason: Reason, names: list[str]) -> str:
-    """A hint for whoever writes the code; the names are those of what stands at the reason's offsets."""
-    return REASON_HINTS[reason.sort].format(*names)
+def reason_hint(reason: Reason, first: Record, names: list[str]) -> str:
+    """A hint for whoever writes the code: of what stands at the reason's offsets, the first record and all names."""
+    asks_a_trip = reason.sort == TOO_FEW_TRIPS and isinstance(first, Loop) and first.skip_differs()
+    return (NO_TRIP_HINT if asks_a_trip else REASON_HINTS[reason.sort]).format(*names)
 
 
 def listing_hint(listing: Listing, refusal: Refusal) -> Optional[str]:
     """A hint for whoever wrote the listing."""
+    if refusal.number == SKIP_DIFFERS:
+        return listed_skip_hint(listing.entry_at(refusal.place))
     if refusal.number not in READER_REFUSALS:
         return None
     entry = listing.entry_at(refusal.place)
@@ -37,7 +44,7 @@ def listing_hint(listing: Listing, refusal: Refusal) -> Optional[str]:
     if refusal.number == 3:
         return field_hint(entry)
     before = listing.entries[:listing.entries.index(entry)]
-    return place_hint(KIND_OF[type(entry.record)], before) if refusal.number == 5 else None
+    return place_hint(kind_of(entry.record), before) if refusal.number == 5 else None
 
 
 def field_hint(entry: Entry) -> Optional[str]:
@@ -54,15 +61,27 @@ def field_ranges(record: Record) -> dict[str, tuple[int, int]]:
     if isinstance(record, Work):
         return {"least": cost, "most": (record.least, COST_LIMIT)}
     if isinstance(record, Loop):
-        return {"stride": (STRIDE_LEAST, STRIDE_MOST), "start": cost, "step": cost}
+        skip = {} if record.skip is None else {"skip": cost}
+        return {"stride": (STRIDE_LEAST, STRIDE_MOST), "start": cost, **skip, "step": cost}
     return {}
+
+
+def listed_skip_hint(entry: Optional[Entry]) -> str:
+    """The loop's start and skip, and the skip's column."""
+    assert entry is not None
+    return f"column {entry.columns['skip']}: {skip_hint(entry.record)}"
+
+
+def skip_hint(loop: Record) -> str:
+    assert isinstance(loop, Loop)
+    return f"the loop's start is {loop.start}, and its skip is {loop.skip}"
 
 
 def open_entries(entries: list[Entry]) -> list[Entry]:
     """The entries that are open after these, outermost first."""
     opened: list[Entry] = []
     for entry in entries:
-        kind = KIND_OF[type(entry.record)]
+        kind = kind_of(entry.record)
         opened = opened[:-1] if kind == END else opened + [entry] if kind in OPENS else opened
     return opened
 
@@ -70,34 +89,35 @@ def open_entries(entries: list[Entry]) -> list[Entry]:
 def place_hint(kind: int, before: list[Entry]) -> str:
     """Why a record of this kind may not stand after these."""
     opened = open_entries(before)
-    kinds = [KIND_OF[type(entry.record)] for entry in opened]
+    depth = loops_among([kind_of(entry.record) for entry in opened])
     if kind == END:
         return "nothing is open that this could end"
     if kind == NEXT_ARM and not opened:
         return "an or parts the arms of a choice, and none is open"
     if kind == NEXT_ARM:
         return f"an or stands directly in a choice; the loop of line {opened[-1].line} is still open"
-    if kind == LOOP and kinds.count(LOOP) >= MOST_LOOPS_DEEP:
-        return f"the loop of line {opened[-1].line} is at depth {kinds.count(LOOP)} already"
+    if kind in LOOPS and depth >= MOST_LOOPS_DEEP:
+        return f"the loop of line {opened[-1].line} is at depth {depth} already"
     return f"{len(opened)} loops and choices are open already, the last of line {opened[-1].line}"
 
 
 def bytes_hint(sheet: bytes, refusal: Refusal) -> Optional[str]:
     """A hint for whoever wrote a sheet in bytes: the record at the place."""
+    if refusal.number == SKIP_DIFFERS:
+        return skip_hint(decode_at(sheet, refusal.place))
     if refusal.number not in READER_REFUSALS or refusal.place >= len(sheet):
         return None
     kind = sheet[refusal.place]
     if kind not in BODY_LENGTH:
         return f"the byte there is {kind}"
-    body = sheet[refusal.place + 1:refusal.place + 1 + BODY_LENGTH[kind]]
-    if len(body) < BODY_LENGTH[kind]:
+    if refusal.place + 1 + BODY_LENGTH[kind] > len(sheet):
         return f"the bytes there are {sheet[refusal.place:].hex(' ')}"
-    return f"the record there is '{record_text(decode(kind, body), loops_open(sheet, refusal.place))}'"
+    return f"the record there is '{record_text(decode_at(sheet, refusal.place), loops_open(sheet, refusal.place))}'"
 
 
 def loops_open(sheet: bytes, end: int) -> int:
     """How many loops are open before an offset."""
     open_kinds: list[int] = []
     for record in decode_before(sheet, end):
-        open_kinds = open_after(KIND_OF[type(record)], open_kinds)
-    return open_kinds.count(LOOP)
+        open_kinds = open_after(kind_of(record), open_kinds)
+    return loops_among(open_kinds)

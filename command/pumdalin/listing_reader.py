@@ -18,15 +18,16 @@ from pumdalin.listing_line import Line
 from pumdalin.listing_text import KIND_WORDS, PARAMETER_NAMES, index_name
 from pumdalin.ranges import UNSIGNED_16, UNSIGNED_32, UNSIGNED_64
 from pumdalin.records import (
-    COST_LIMIT, END, LOOP, OPENS, PLAIN, STRIDE_LEAST, STRIDE_MOST, WORK,
-    Loop, Record, Work, encode_all, offsets, used_parameters,
+    COST_LIMIT, END, LOOP, LOOPS, OPENS, PLAIN, SKIP_LOOP, STRIDE_LEAST, STRIDE_MOST, WORK,
+    Loop, Record, Work, encode_all, kind_of, offsets, used_parameters,
 )
 
 COST = (0, COST_LIMIT)
 STRIDE = (STRIDE_LEAST, STRIDE_MOST)
 REFUSAL_NUMBERS = (1, 8)
 
-KINDS = {word: kind for kind, word in KIND_WORDS.items()}
+# What a line's first word opens; which of the two kinds a loop is of, its skip says.
+KINDS = {word: kind for kind, word in KIND_WORDS.items() if kind != SKIP_LOOP}
 
 
 Expected = TypeVar("Expected")
@@ -106,13 +107,14 @@ class Listing:
         """The first line that uses a parameter, numbered from 0."""
         return next((entry.line for entry in self.entries if parameter in used_parameters([entry.record])), None)
 
-    def add(self, kind: int, entry: Entry) -> None:
+    def add(self, entry: Entry) -> None:
+        kind = kind_of(entry.record)
         self.entries.append(entry)
         if kind in OPENS:
             self.open_kinds.append(kind)
-            self.loops_open += kind == LOOP
+            self.loops_open += kind in LOOPS
         elif kind == END and self.open_kinds:
-            self.loops_open -= self.open_kinds.pop() == LOOP
+            self.loops_open -= self.open_kinds.pop() in LOOPS
 
 
 def read_listing(text: str) -> Listing:
@@ -151,7 +153,7 @@ def read_line(line: Line, listing: Listing) -> None:
     if first in KINDS:
         line.take()
         record, columns = read_record(line, KINDS[first], listing.loops_open)
-        listing.add(KINDS[first], Entry(record, line.number, columns, listing.loops_open))
+        listing.add(Entry(record, line.number, columns, listing.loops_open))
     elif first in OTHER_LINES:
         line.take()
         OTHER_LINES[first](line, listing)
@@ -191,12 +193,12 @@ def read_loop(line: Line, around: int) -> Read:
     line.take_required("..", "'..' and the upper bound")
     upper = read_form(line, around)
     numbers, columns = read_loop_numbers(line)
-    return Loop(numbers["start"], numbers["step"], numbers["stride"], lower, upper), columns
+    return Loop(numbers["start"], numbers["step"], numbers["stride"], lower, upper, numbers.get("skip")), columns
 
 
 def read_loop_numbers(line: Line) -> tuple[dict[str, int], dict[str, int]]:
-    """Stride, start and step of a loop, in any order, each with its default; and their columns."""
-    unsaid = {"by": ("stride", STRIDE), "start": ("start", COST), "step": ("step", COST)}
+    """Stride, start, skip and step of a loop, in any order, each but the skip with its default; and their columns."""
+    unsaid = {"by": ("stride", STRIDE), "start": ("start", COST), "skip": ("skip", COST), "step": ("step", COST)}
     numbers = {"stride": 1, "start": 0, "step": 0}
     columns: dict[str, int] = {}
     while not line.at_end():

@@ -7,8 +7,8 @@ from typing import Optional
 
 from pumdalin.answers import LoopReport, Refusal
 from pumdalin.records import (
-    CHOICE, END, INDEX_FACTORS, KIND_OF, LOOP, NEXT_ARM, WORK,
-    Form, Loop, Record, Work, decode_before, offsets, open_after,
+    CHOICE, END, INDEX_FACTORS, LOOP, NEXT_ARM, SKIP_LOOP, WORK,
+    Form, Loop, Record, Work, decode_before, kind_of, loops_among, offsets, open_after,
 )
 from pumdalin.refusals import summary
 
@@ -19,7 +19,8 @@ DEEPER_INDEX_NAME = "m"
 PARAMETER_NAMES = ("p1", "p2", "p3", "p4")
 FACTOR_NAMES = INDEX_NAMES[:INDEX_FACTORS] + PARAMETER_NAMES
 
-KIND_WORDS = {WORK: "work", LOOP: "loop", CHOICE: "choice", NEXT_ARM: "or", END: "end"}
+# Both kinds of loops have one word; a loop with a skip is of the second.
+KIND_WORDS = {WORK: "work", LOOP: "loop", CHOICE: "choice", NEXT_ARM: "or", END: "end", SKIP_LOOP: "loop"}
 INDENT = "  "
 
 
@@ -50,13 +51,15 @@ def record_text(record: Record, loops_around: int) -> str:
         return f"work {record.least}{most}"
     if isinstance(record, Loop):
         return loop_text(record, loops_around)
-    return KIND_WORDS[KIND_OF[type(record)]]
+    return KIND_WORDS[kind_of(record)]
 
 
 def loop_text(loop: Loop, loops_around: int) -> str:
+    """A loop's line. A skip has no default: that it is written says which kind the loop is of."""
     text = f"loop {index_name(loops_around)} {form_text(loop.lower)}..{form_text(loop.upper)}"
     text += f" by {loop.stride}" if loop.stride != 1 else ""
     text += f" start {loop.start}" if loop.start else ""
+    text += f" skip {loop.skip}" if loop.skip is not None else ""
     text += f" step {loop.step}" if loop.step else ""
     return text
 
@@ -66,9 +69,9 @@ def record_lines(records: list[Record]) -> list[str]:
     lines: list[str] = []
     open_kinds: list[int] = []
     for record in records:
-        kind = KIND_OF[type(record)]
+        kind = kind_of(record)
         around = len(open_kinds) - (1 if kind in (END, NEXT_ARM) else 0)
-        lines.append(INDENT * around + record_text(record, open_kinds.count(LOOP)))
+        lines.append(INDENT * around + record_text(record, loops_among(open_kinds)))
         open_kinds = open_after(kind, open_kinds)
     return lines
 

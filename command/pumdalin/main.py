@@ -6,7 +6,7 @@ from pathlib import Path
 from typing import Callable, NamedTuple
 
 from pumdalin.arguments import with_joined_parameters
-from pumdalin.commands import answer, make, print as printing
+from pumdalin.commands import answer, convert, make, print as printing
 from pumdalin.errors import INTERRUPTED, UNUSABLE, CommandError
 from pumdalin.files import tell
 from pumdalin.library import Library
@@ -20,10 +20,11 @@ class Command(NamedTuple):
 COMMANDS = {
     "print": Command(printing.SUMMARY, printing.run),
     "make": Command(make.SUMMARY, make.run),
+    "convert": Command(convert.SUMMARY, convert.run),
 }
 
 FURTHER = "further commands, each with --help of its own:\n" + "".join(
-    f"  pumdalin {name:8}{command.summary}\n" for name, command in COMMANDS.items()) + """\
+    f"  pumdalin {name:9}{command.summary}\n" for name, command in COMMANDS.items()) + """\
 a file that is called like one of them is written ./NAME
 
 exit status:

@@ -5,17 +5,19 @@ complement.
 """
 
 from dataclasses import dataclass
-from typing import NamedTuple, Sequence, Union
+from typing import NamedTuple, Optional, Sequence, Union
 
 WORK = 1
 LOOP = 2
 END = 3
 CHOICE = 4
 NEXT_ARM = 5
+SKIP_LOOP = 6
 
-OPENS = (LOOP, CHOICE)
+LOOPS = (LOOP, SKIP_LOOP)
+OPENS = LOOPS + (CHOICE,)
 
-BODY_LENGTH = {WORK: 4, LOOP: 24, END: 0, CHOICE: 0, NEXT_ARM: 0}
+BODY_LENGTH = {WORK: 4, LOOP: 24, END: 0, CHOICE: 0, NEXT_ARM: 0, SKIP_LOOP: 26}
 
 MOST_RECORDS = 64
 MOST_LOOPS_DEEP = 4
@@ -47,11 +49,18 @@ class Work:
 
 @dataclass(frozen=True)
 class Loop:
+    """A loop of kind 6, or of kind 2, which has no skip of its own."""
+
     start: int
     step: int
     stride: int
     lower: Form
     upper: Form
+    skip: Optional[int] = None
+
+    def skip_differs(self) -> bool:
+        """Whether it costs something else than its start where it makes no trip."""
+        return self.skip is not None and self.skip != self.start
 
 
 @dataclass(frozen=True)
@@ -71,8 +80,14 @@ class NextArm:
 
 Record = Union[Work, Loop, End, Choice, NextArm]
 
-KIND_OF = {Work: WORK, Loop: LOOP, End: END, Choice: CHOICE, NextArm: NEXT_ARM}
+KIND_WITHOUT_SKIP = {Work: WORK, Loop: LOOP, End: END, Choice: CHOICE, NextArm: NEXT_ARM}
 PLAIN: dict[int, Record] = {END: End(), CHOICE: Choice(), NEXT_ARM: NextArm()}
+
+
+def kind_of(record: Record) -> int:
+    if isinstance(record, Loop) and record.skip is not None:
+        return SKIP_LOOP
+    return KIND_WITHOUT_SKIP[type(record)]
 
 
 def unsigned(data: bytes) -> int:
@@ -104,25 +119,27 @@ def decode(kind: int, body: bytes) -> Record:
     """The record of a known kind, its body whole; ranges are not checked here."""
     if kind == WORK:
         return Work(unsigned(body[0:2]), unsigned(body[2:4]))
-    if kind == LOOP:
+    if kind in LOOPS:
         return Loop(
             unsigned(body[0:2]),
             unsigned(body[2:4]),
             unsigned(body[4:6]),
             decode_form(body[6:15]),
             decode_form(body[15:24]),
+            unsigned(body[24:26]) if kind == SKIP_LOOP else None,
         )
     return PLAIN[kind]
 
 
 def encode(record: Record) -> bytes:
     """The bytes of a record: one byte of kind, then the body."""
-    kind = bytes([KIND_OF[type(record)]])
+    kind = bytes([kind_of(record)])
     if isinstance(record, Work):
         return kind + two_bytes_each(record.least, record.most)
     if isinstance(record, Loop):
         costs = two_bytes_each(record.start, record.step, record.stride)
-        return kind + costs + encode_form(record.lower) + encode_form(record.upper)
+        skip = b"" if record.skip is None else two_bytes_each(record.skip)
+        return kind + costs + encode_form(record.lower) + encode_form(record.upper) + skip
     return kind
 
 
@@ -132,7 +149,7 @@ def two_bytes_each(*numbers: int) -> bytes:
 
 
 def record_length(record: Record) -> int:
-    return 1 + BODY_LENGTH[KIND_OF[type(record)]]
+    return 1 + BODY_LENGTH[kind_of(record)]
 
 
 def encode_all(records: Sequence[Record]) -> bytes:
@@ -156,14 +173,24 @@ def open_after(kind: int, open_kinds: list[int]) -> list[int]:
     return open_kinds
 
 
+def loops_among(kinds: list[int]) -> int:
+    """How many of these kinds are loops."""
+    return sum(kind in LOOPS for kind in kinds)
+
+
+def decode_at(sheet: bytes, offset: int) -> Record:
+    """The record of a known kind at an offset, its body whole."""
+    body = offset + 1
+    return decode(sheet[offset], sheet[body:body + BODY_LENGTH[sheet[offset]]])
+
+
 def decode_before(sheet: bytes, end: int) -> list[Record]:
     """The records before an offset at which a record ends, each of a known kind."""
     records: list[Record] = []
     offset = 0
     while offset < end:
-        body = offset + 1
-        offset = body + BODY_LENGTH[sheet[offset]]
-        records.append(decode(sheet[body - 1], sheet[body:offset]))
+        records.append(decode_at(sheet, offset))
+        offset += record_length(records[-1])
     return records
 
 

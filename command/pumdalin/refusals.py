@@ -2,7 +2,7 @@
 
 from typing import NamedTuple
 
-from pumdalin.answers import Refusal
+from pumdalin.answers import SKIP_DIFFERS, Refusal
 from pumdalin.inputs import LARGEST_BUDGET
 from pumdalin.records import (
     CEILING_LIMIT, COST_LIMIT, MOST_LOOPS_DEEP, MOST_OPEN, MOST_RECORDS, STRIDE_LEAST, STRIDE_MOST,
@@ -25,11 +25,11 @@ class Words(NamedTuple):
 
 REFUSALS = {
     1: Words("the sheet ends inside this record", WRITER, "add the record's missing bytes",
-             "a work has 5 bytes, a loop 25, any other record 1"),
+             "a work has 5 bytes, a loop of kind 2 has 25, one of kind 6 has 27, any other record 1"),
     2: Words("no kind of record has this number", WRITER, "write a kind of record here",
-             "kinds are 1 to 5"),
+             "kinds are 1 to 6"),
     3: Words("a field of this record is out of its range", WRITER, "change the field",
-             f"least <= most <= {COST_LIMIT:,}; start and step <= {COST_LIMIT:,}; stride {STRIDE_LEAST} to "
+             f"least <= most <= {COST_LIMIT:,}; start, skip and step <= {COST_LIMIT:,}; stride {STRIDE_LEAST} to "
              f"{STRIDE_MOST:,}; in a bound only the indexes of the loops around"),
     4: Words(f"the sheet has more than {MOST_RECORDS} records", WRITER, "split the sheet before this record",
              f"a sheet has at most {MOST_RECORDS} records"),
@@ -43,6 +43,10 @@ REFUSALS = {
              "give a larger budget, or a sheet with fewer walked loops (an answer with figures, such as one at smaller "
              "parameter values, says why each is walked)",
              f"a budget is 1 to {LARGEST_BUDGET:,} visits"),
+    SKIP_DIFFERS: Words("this loop's skip differs from its start, and a loop of kind 2 has no skip of its own", WRITER,
+                        "give the loop a skip that equals its start, if that is what the code costs without a trip, or leave "
+                        "the sheet as it is",
+                        "a loop of kind 2 costs its start where it makes no trip"),
 }
 
 OPEN_AT_END = Words("a loop or a choice is still open at the sheet's end", WRITER, "add the missing end", NESTING)

@@ -11,8 +11,8 @@ from pumdalin.inputs import LARGEST_BUDGET, filled, without_value
 from pumdalin.library import Library
 from pumdalin.listing_reader import AnyExpectation, Entry, Listing, read_listing
 from pumdalin.listing_text import KIND_WORDS, PARAMETER_NAMES, index_name
-from pumdalin.records import KIND_OF, Loop, decode_before, used_parameters
-from pumdalin.refusals import explanation, summary
+from pumdalin.records import Loop, Record, decode_at, decode_before, kind_of, used_parameters
+from pumdalin.refusals import explanation, summary, words_for
 
 
 class ListingSubject:
@@ -42,6 +42,9 @@ class ListingSubject:
         assert entry is not None
         return entry
 
+    def record_at(self, offset: int) -> Record:
+        return self.entry_at(offset).record
+
     def loop_at(self, offset: int) -> dict[str, object]:
         """The line and the index of the loop at an offset."""
         entry = self.entry_at(offset)
@@ -54,7 +57,7 @@ class ListingSubject:
         """The loop or the choice at an offset, as the listing has it."""
         entry = self.entry_at(offset)
         index = f" {index_name(entry.loops_around)}" if isinstance(entry.record, Loop) else ""
-        return f"the {KIND_WORDS[KIND_OF[type(entry.record)]]}{index} of line {entry.line}"
+        return f"the {KIND_WORDS[kind_of(entry.record)]}{index} of line {entry.line}"
 
     def reason_line(self, reason: Reason) -> str:
         return f"{reason.text()}: {', '.join(self.name_at(offset) for offset in reason.offsets)}"
@@ -88,6 +91,9 @@ class SheetSubject:
 
     def used(self) -> list[int]:
         return used_parameters(decode_before(self.sheet, len(self.sheet)))
+
+    def record_at(self, offset: int) -> Record:
+        return decode_at(self.sheet, offset)
 
     def loop_at(self, offset: int) -> dict[str, object]:
         return {}
@@ -142,6 +148,12 @@ def refusal_lines(subject: Subject, refusal: Refusal) -> list[str]:
     return [f"{place}: {words}" for words in said]
 
 
+def refusal_object(subject: Subject, refusal: Refusal) -> dict[str, object]:
+    """The same for JSON."""
+    return {**refusal._asdict(), "line": subject.refusal_line(refusal),
+            **words_for(refusal, subject.sheet)._asdict(), "hint": subject.hint(refusal)}
+
+
 def loop_lines(subject: Subject, loop: LoopReport) -> list[str]:
     """What is said of a loop; after a walked one, why it is walked and what to change."""
     if loop.reason is None:
@@ -151,7 +163,8 @@ def loop_lines(subject: Subject, loop: LoopReport) -> list[str]:
 
 
 def hint_to(subject: Subject, reason: Reason) -> str:
-    return reason_hint(reason, [subject.name_at(offset) for offset in reason.offsets])
+    names = [subject.name_at(offset) for offset in reason.offsets]
+    return reason_hint(reason, subject.record_at(reason.offsets[0]), names)
 
 
 def tell_refusal(subject: Subject, refusal: Refusal) -> None:

@@ -1,7 +1,6 @@
 """Tests of the command as a user runs it: answers, refusals in words, wrong uses, statuses.
 
-The command is that of dist/, or the one that the environment variable PUMDALIN names. The figures expected are those of the
-documents and of the listings, which come from the independent reckoning.
+The figures expected are those of the documents and of the listings, which come from the independent reckoning.
 """
 
 import json
@@ -11,13 +10,12 @@ import re
 import shlex
 import signal
 import subprocess
-import tempfile
 import time
 import unittest
 from pathlib import Path
 
-ROOT = Path(__file__).resolve().parent.parent.parent
-COMMAND = os.environ.get("PUMDALIN", str(ROOT / "dist" / "bin" / "pumdalin"))
+from tests.running import COMMAND, ROOT, CommandTest, run, shell
+
 LISTINGS = ROOT / "examples" / "listings"
 DISPENSE = LISTINGS / "firmware" / "dispense.listing"
 WALKED = LISTINGS / "walked"
@@ -106,46 +104,6 @@ loop i 0..9
 end
 """
 
-Ended = subprocess.CompletedProcess
-
-
-def run(*words: object, given: bytes = b"") -> "Ended[bytes]":
-    return subprocess.run([COMMAND, *map(str, words)], input=given, capture_output=True, timeout=60)
-
-
-def shell(redirection: str, *words: object) -> "Ended[bytes]":
-    """The command with one of its three files closed."""
-    command = shlex.join([COMMAND, *map(str, words)])
-    return subprocess.run(f"{command} {redirection}", shell=True, capture_output=True, timeout=60)
-
-
-class CommandTest(unittest.TestCase):
-    def setUp(self) -> None:
-        self.assertTrue(os.access(COMMAND, os.X_OK), f"{COMMAND} is not there; run make dist first")
-        folder = tempfile.TemporaryDirectory()
-        self.addCleanup(folder.cleanup)
-        self.folder = Path(folder.name)
-
-    def file(self, name: str, data: "str | bytes") -> Path:
-        path = self.folder / name
-        path.write_bytes(data if isinstance(data, bytes) else data.encode())
-        return path
-
-    def sheet(self, listing: str) -> Path:
-        return self.file("made.sheet", run("make", self.file("made.listing", listing)).stdout)
-
-    def check(self, ended: "Ended[bytes]", status: int, output: str = "", *errors: str) -> None:
-        """The status, the whole output, and lines of the standard error, in order."""
-        said = ended.stderr.decode()
-        self.assertEqual((ended.returncode, ended.stdout.decode()), (status, output), said)
-        self.assertNotIn("Traceback", said)
-        at = 0
-        for words in errors:
-            self.assertIn(words, said[at:])
-            at = said.index(words, at) + len(words)
-        self.assertEqual(bool(said), bool(errors), said)
-
-
 class Answers(CommandTest):
     def test_listing(self) -> None:
         self.check(run(DISPENSE), 0, ANSWER + "parameters 16 0 0 0 budget 100\nline 14: loop i closed ceiling 16\n"
@@ -228,6 +186,8 @@ class Reasons(CommandTest):
                       "line 18: loop j closed ceiling 8", "line 22: loop j closed ceiling 8"],
             "ramp": ["line 13: loop i walked ceiling 12", "  loop 30 may fall below no trips: the loop j of line 15",
                      "line 15: loop j closed ceiling 8"],
+            "purge": ["line 15: loop i walked ceiling 12", "  loop 32 may fall below no trips: the loop j of line 17",
+                      "line 17: loop j closed ceiling 11"],
             "meter": ["line 12: loop i walked ceiling 10",
                       "  loop 30 is uneven in loop 0: the loop j of line 14, the loop i of line 12",
                       "line 14: loop j closed ceiling 5"],
@@ -277,6 +237,19 @@ class Reasons(CommandTest):
         self.assertEqual(self.shown(ramp, "--parameters", "9", "8"),
                          ["line 13: loop i closed ceiling 9", "line 15: loop j closed ceiling 8"])
 
+    def test_skip_mended(self) -> None:
+        """By one trip at least, or by a skip that equals the start, where the loop may then start a stride past its end."""
+        for outer, skip, reason in [
+            ("i 0..9", "start 4 skip 1", "loop 25 may fall below no trips"),
+            ("i 1..9", "start 4 skip 1", None),
+            ("i 0..9", "start 4 skip 4", None),
+            ("i 0..9", "start 4", None),
+            ("i -1..9", "start 4 skip 4", "loop 25 may fall below no trips"),
+        ]:
+            listing = self.file("skip.listing", f"loop {outer}\nloop j 0..i-1 {skip}\nend\nend\n")
+            said = json.loads(run(listing, "--json").stdout)["loops"][0]["reason"]
+            self.assertEqual(said and said["printed"], reason)
+
     def test_bytes(self) -> None:
         sheet = self.sheet((WALKED / "meter.listing").read_text())
         self.assertEqual(self.shown("--bytes", sheet, "--parameters", "10"),
@@ -291,6 +264,7 @@ class Reasons(CommandTest):
         for name, said in {
             "rinse": ("holds-loop", [30], [17], "choice 30 holds a loop"),
             "ramp": ("too-few-trips", [30], [15], "loop 30 may fall below no trips"),
+            "purge": ("too-few-trips", [32], [17], "loop 32 may fall below no trips"),
             "meter": ("uneven", [30, 0], [14, 12], "loop 30 is uneven in loop 0"),
         }.items():
             path = WALKED / f"{name}.listing"
@@ -317,10 +291,10 @@ class Reasons(CommandTest):
         self.assertEqual(said[0]["answered"], {"offset": 0, "closed": False, "ceiling": 4, "reason": "loop 25 is uneven in loop 0"})
 
     def test_readme(self) -> None:
-        """What the README shows of each sort is what the command prints, up to the expectations."""
+        """What the README shows of each sort, and of a skip, is what the command prints, up to the expectations."""
         section = re.split("^## ", README.read_text().split("\n## Why is a loop walked?\n")[1], flags=re.MULTILINE)[0]
         shown = re.findall(r"^    \$ dist/bin/pumdalin (\S+)$.*?^```\n(.*?)^```$", section, re.MULTILINE | re.DOTALL)
-        self.assertEqual(len(shown), 3)
+        self.assertEqual(len(shown), 4)
         for path, output in shown:
             printed = run(ROOT / path).stdout.decode()
             self.assertTrue(printed.startswith(output), printed)
@@ -385,7 +359,7 @@ class Refusals(CommandTest):
     def test_of_bytes(self) -> None:
         for data, errors in {
             b"\x01\x03\x00": ("refused 1 at 0: the sheet ends inside", "missing bytes", "hint: the bytes there are 01 03 00"),
-            b"\x04\x03\x09": ("refused 2 at 2: no kind", "limit: kinds are 1 to 5", "hint: the byte there is 9"),
+            b"\x04\x03\x09": ("refused 2 at 2: no kind", "limit: kinds are 1 to 6", "hint: the byte there is 9"),
             b"\x01\x05\x00\x03\x00": ("refused 3 at 0: a field", "hint: the record there is 'work 5..3'"),
             b"\x04\x03" * 32 + b"\x03": ("refused 4 at 64: the sheet has more than 64",),
             b"\x05": ("refused 5 at 0: this record", "hint: the record there is 'or'"),
@@ -451,7 +425,7 @@ class WrongUses(CommandTest):
                 self.check(run(*words, given=b"work 1\n"), 2, "", said)
 
     def test_files(self) -> None:
-        for words in ([], ["--bytes"], ["print"], ["make"]):
+        for words in ([], ["--bytes"], ["print"], ["make"], ["convert", "--to", "6"], ["convert", "--to", "2", "--bytes"]):
             self.check(run(*words, self.folder / "none"), 2, "", "none: can't be read: No such file or directory")
             self.check(run(*words, self.folder), 2, "", "can't be read: Is a directory")
         self.check(run("/dev/zero"), 2, "", "/dev/zero: has more than 16,777,216 bytes; give a listing")
@@ -477,7 +451,8 @@ class WrongUses(CommandTest):
 
     def test_output_that_can_not_be_written(self) -> None:
         for words in ([DISPENSE], [DISPENSE, "--json"], ["make", DISPENSE], ["make", DISPENSE, "--c", "x"], ["--help"],
-                      ["--version"], ["make", "--help"], ["print", self.sheet("work 1")]):
+                      ["--version"], ["make", "--help"], ["print", self.sheet("work 1")],
+                      ["convert", DISPENSE, "--to", "6"]):
             with self.subTest(words), open(FULL, "wb") as full:
                 ended = subprocess.run([COMMAND, *map(str, words)], stdout=full, stderr=subprocess.PIPE)
                 self.assertEqual(ended.returncode, 2)
@@ -572,7 +547,7 @@ class MakingAndPrinting(CommandTest):
         self.assertNotEqual(ended.returncode, 0)
         self.assertEqual((folder / "made").read_bytes(), b"before")
         listing = self.file("own.listing", "work 1\n")
-        self.check(run("make", listing, "--output", listing), 2, "", "the listing would be overwritten")
+        self.check(run("make", listing, "--output", listing), 2, "", f"{listing} would be overwritten; name another file")
         self.assertEqual(listing.read_text(), "work 1\n")
 
     def test_no_bytes_to_a_terminal(self) -> None:
@@ -604,13 +579,13 @@ class Help(CommandTest):
         self.check(run("--version"), 0, f"pumdalin {(ROOT / 'VERSION').read_text().strip()}\n")
 
     def test_manual_has_every_option(self) -> None:
-        manual = MANUAL.read_text().replace("\\-", "-")
-        for words in ([], ["print"], ["make"]):
+        manual = re.sub(r"\\f[BIR]", " ", MANUAL.read_text().replace("\\-", "-"))
+        for words in ([], ["print"], ["make"], ["convert"]):
             help_text = run(*words, "--help").stdout.decode()
-            options = set(re.findall(r"--[a-z]+", help_text))
-            self.assertIn("--help", options)
+            options = set(re.findall(r"(?<![-\w])--?[a-z]+", help_text))
+            self.assertLessEqual({"--help", "-h"}, options)
             for option in options:
-                self.assertIn(option, manual)
+                self.assertRegex(manual, rf"(?<![-\w]){option}(?![-\w])")
 
 
 if __name__ == "__main__":

@@ -6,15 +6,14 @@ from typing import NamedTuple, Optional, Union
 
 from pumdalin import VERSION
 from pumdalin.answers import Answer, Figures, LoopReport, Reason, Refusal, Report
-from pumdalin.arguments import add_budget, add_file, add_parameters, parser_for
+from pumdalin.arguments import add_budget, add_bytes, add_file, add_parameters, parser_for
 from pumdalin.errors import ANSWERED, REFUSED, CommandError
 from pumdalin.files import tell, write_text
 from pumdalin.inputs import Parameters, filled
 from pumdalin.library import Library
 from pumdalin.listing_reader import AnyExpectation
 from pumdalin.listing_text import PARAMETER_NAMES
-from pumdalin.refusals import words_for
-from pumdalin.subjects import Subject, ask, hint_to, loop_lines, read_subject, tell_refusal
+from pumdalin.subjects import Subject, ask, hint_to, loop_lines, read_subject, refusal_object, tell_refusal
 
 DESCRIPTION = """\
 Least and most cycles that the code of a sheet can take, the visits that the answer
@@ -58,7 +57,7 @@ def add_arguments(parser: argparse.ArgumentParser) -> None:
     add_file(parser, "LISTING", "the listing of a sheet")
     add_parameters(parser)
     add_budget(parser)
-    parser.add_argument("--bytes", action="store_true", help="the file holds a sheet's bytes and not a listing")
+    add_bytes(parser)
     parser.add_argument("--json", action="store_true", help="the answer as JSON, for builds")
     parser.add_argument("--version", action="version", version=f"pumdalin {VERSION}")
 
@@ -147,11 +146,6 @@ def write_json(outcome: Outcome) -> None:
     if isinstance(answer, Figures) and answer.most > LARGEST_EXACT_DOUBLE:
         tell(f"{outcome.subject.name}: note: a figure is above {LARGEST_EXACT_DOUBLE}; a reader of JSON that keeps "
              "numbers as doubles rounds it")
-
-
-def refusal_object(subject: Subject, refusal: Refusal) -> dict[str, object]:
-    return {**refusal._asdict(), "line": subject.refusal_line(refusal),
-            **words_for(refusal, subject.sheet)._asdict(), "hint": subject.hint(refusal)}
 
 
 def loop_object(subject: Subject, loop: LoopReport) -> dict[str, object]:

@@ -4,9 +4,9 @@ import os
 import re
 from typing import Optional
 
-from pumdalin.arguments import Once, add_file, parser_for
+from pumdalin.arguments import Once, add_file, add_output, check_output, parser_for
 from pumdalin.errors import ANSWERED, REFUSED
-from pumdalin.files import STANDARD_OUTPUT, write_file, write_output
+from pumdalin.files import write_bytes
 from pumdalin.inputs import filled, program_input
 from pumdalin.library import Library
 from pumdalin.subjects import ListingSubject, read_listing_file, require_values, tell_refusal
@@ -36,25 +36,18 @@ def run(words: list[str], library: Library) -> int:
     form.add_argument("--c", action=Once, metavar="NAME", help="a C array of this name, and its length as NAME_length")
     form.add_argument("--input", action="store_true",
                       help="what bound reads: the listing's parameters and budget before the sheet")
-    parser.add_argument("--output", action=Once, metavar="FILE", help="the file to write; without it the standard output")
+    add_output(parser)
     given = parser.parse_args(words)
     if given.c is not None and (not IDENTIFIER.fullmatch(given.c) or given.c in KEYWORDS):
         parser.error(f"'{given.c}' is no name for a C array; write a C identifier after --c")
-    if not given.c and not given.output and os.isatty(STANDARD_OUTPUT):
-        parser.error("the sheet's bytes would go to the terminal; write --output FILE, or > FILE")
-    if given.output and same_file(given.file, given.output):
-        parser.error("the listing would be overwritten; name another file after --output")
+    check_output(parser, given, is_text=given.c is not None)
     subject = read_listing_file(given.file)
     refusal = library.reader_refusal(subject.sheet)
     if refusal:
         tell_refusal(subject, refusal)
         return REFUSED
-    write(given.output, made(subject, given.c, given.input))
+    write_bytes(given.output, made(subject, given.c, given.input))
     return ANSWERED
-
-
-def same_file(one: str, other: str) -> bool:
-    return os.path.exists(one) and os.path.exists(other) and os.path.samefile(one, other)
 
 
 def made(subject: ListingSubject, array: Optional[str], as_input: bool) -> bytes:
@@ -67,13 +60,6 @@ def bound_input(subject: ListingSubject) -> bytes:
     values, budget = subject.given()
     require_values(subject, values)
     return program_input(subject.sheet, filled(values), budget)
-
-
-def write(path: Optional[str], data: bytes) -> None:
-    if path:
-        write_file(path, data)
-    else:
-        write_output(data)
 
 
 def c_array(name: str, subject: ListingSubject) -> str:

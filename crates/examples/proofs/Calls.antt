@@ -1,4 +1,4 @@
--- The writer, the C calls, the record reader, the program's text and reasons read back, by cases.
+-- The writer, C calls, the record reader, the program's text, reasons read back, converters, by cases.
 -- Last three numbers that only theorems name.
 use mathlib.Core.Path.{_≡_, refl}
 use mathlib.Core.List.{[], _∷_}
@@ -14,26 +14,31 @@ use Rattle.meaning.specs.Reason.{holdsLoop, tooFewTrips, unevenIn}
 use Rattle.meaning.specs.ReasonLine.{readReason}
 use Rattle.meaning.specs.Program.{programText}
 use Rattle.meaning.specs.TextCall.{textCall}
-use Rattle.meaning.proofs.Vocabulary.{hex, zeroParameters, form, raw, written, notWritten, called, textCalled, found, sheetEnd}
+use Rattle.meaning.specs.Converter.{withSkips, withoutSkips}
+use Rattle.meaning.specs.ConverterCall.{withSkipsCall, withoutSkipsCall}
+use Rattle.meaning.proofs.Vocabulary.{hex, zeroParameters, form, raw, written, notWritten, called, lent, found, sheetEnd}
 use Rattle.meaning.proofs.Computes.{computes}
 
 abbrev noForm : Form
 noForm = form (pos 0) (pos 0 ∷ pos 0 ∷ pos 0 ∷ []) (pos 0 ∷ pos 0 ∷ pos 0 ∷ pos 0 ∷ [])
 
 abbrev aWork : RawRecord
-aWork = raw 1 1 2 0 0 0 noForm noForm
+aWork = raw 1 1 2 0 0 0 noForm noForm 0
 
 abbrev aLoop : RawRecord
-aLoop = raw 2 0 0 0 0 1 noForm (form (pos 3) (pos 0 ∷ pos 0 ∷ pos 0 ∷ []) (pos 0 ∷ pos 0 ∷ pos 0 ∷ pos 0 ∷ []))
+aLoop = raw 2 0 0 0 0 1 noForm (form (pos 3) (pos 0 ∷ pos 0 ∷ pos 0 ∷ []) (pos 0 ∷ pos 0 ∷ pos 0 ∷ pos 0 ∷ [])) 0
 
 abbrev anEnd : RawRecord
-anEnd = raw 3 0 0 0 0 0 noForm noForm
+anEnd = raw 3 0 0 0 0 0 noForm noForm 0
 
 abbrev aChoice : RawRecord
-aChoice = raw 4 0 0 0 0 0 noForm noForm
+aChoice = raw 4 0 0 0 0 0 noForm noForm 0
 
 abbrev aNextArm : RawRecord
-aNextArm = raw 5 0 0 0 0 0 noForm noForm
+aNextArm = raw 5 0 0 0 0 0 noForm noForm 0
+
+abbrev aSkipLoop : RawRecord
+aSkipLoop = raw 6 0 0 3 0 1 noForm (form (pos 3) (pos 0 ∷ pos 0 ∷ pos 0 ∷ []) (pos 0 ∷ pos 0 ∷ pos 0 ∷ pos 0 ∷ [])) 1
 
 pub writer-1 :
     -- count 0, no buffer
@@ -41,9 +46,9 @@ pub writer-1 :
     -- count 0, the buffer stays
     × (write [] 0 (hex "c9ca") ≡ written 0 (hex "c9ca"))
     -- count 0, an entry of no kind past it
-    × (write (raw 9 0 0 0 0 0 noForm noForm ∷ []) 0 (hex "07") ≡ written 0 (hex "07"))
+    × (write (raw 9 0 0 0 0 0 noForm noForm 0 ∷ []) 0 (hex "07") ≡ written 0 (hex "07"))
     -- count 1, entries past it are not looked at
-    × (write (aWork ∷ raw 9 3 0 0 0 0 noForm noForm ∷ aChoice ∷ []) 1 (hex "05060708090a") ≡ written 5 (hex "01010002000a"))
+    × (write (aWork ∷ raw 9 3 0 0 0 0 noForm noForm 0 ∷ aChoice ∷ []) 1 (hex "05060708090a") ≡ written 5 (hex "01010002000a"))
     -- 63 records
     × (write (aChoice ∷ aNextArm ∷ anEnd ∷ aChoice ∷ aNextArm ∷ anEnd ∷ aChoice ∷ aNextArm ∷ anEnd ∷ aChoice ∷ aNextArm ∷ anEnd ∷ aChoice ∷ aNextArm ∷ anEnd ∷ aChoice ∷ aNextArm ∷ anEnd ∷ aChoice ∷ aNextArm ∷ anEnd ∷ aChoice ∷ aNextArm ∷ anEnd ∷ aChoice ∷ aNextArm ∷ anEnd ∷ aChoice ∷ aNextArm ∷ anEnd ∷ aChoice ∷ aNextArm ∷ anEnd ∷ aChoice ∷ aNextArm ∷ anEnd ∷ aChoice ∷ aNextArm ∷ anEnd ∷ aChoice ∷ aNextArm ∷ anEnd ∷ aChoice ∷ aNextArm ∷ anEnd ∷ aChoice ∷ aNextArm ∷ anEnd ∷ aChoice ∷ aNextArm ∷ anEnd ∷ aChoice ∷ aNextArm ∷ anEnd ∷ aChoice ∷ aNextArm ∷ anEnd ∷ aChoice ∷ aNextArm ∷ anEnd ∷ aChoice ∷ aNextArm ∷ anEnd ∷ []) 63 (hex "c9cacbcccdcecfd0d1d2d3d4d5d6d7d8d9dadbdcdddedfe0e1e2e3e4e5e6e7e8e9eaebecedeeeff0f1f2f3f4f5f6f7f8f9fac9cacbcccdcecfd0d1d2d3d4d5d6") ≡ written 63 (hex "040503040503040503040503040503040503040503040503040503040503040503040503040503040503040503040503040503040503040503040503040503d6"))
     -- 64 records
@@ -53,7 +58,7 @@ pub writer-1 :
     -- count 65
     × (write (aChoice ∷ anEnd ∷ aChoice ∷ anEnd ∷ aChoice ∷ anEnd ∷ aChoice ∷ anEnd ∷ aChoice ∷ anEnd ∷ aChoice ∷ anEnd ∷ aChoice ∷ anEnd ∷ aChoice ∷ anEnd ∷ aChoice ∷ anEnd ∷ aChoice ∷ anEnd ∷ aChoice ∷ anEnd ∷ aChoice ∷ anEnd ∷ aChoice ∷ anEnd ∷ aChoice ∷ anEnd ∷ aChoice ∷ anEnd ∷ aChoice ∷ anEnd ∷ aChoice ∷ anEnd ∷ aChoice ∷ anEnd ∷ aChoice ∷ anEnd ∷ aChoice ∷ anEnd ∷ aChoice ∷ anEnd ∷ aChoice ∷ anEnd ∷ aChoice ∷ anEnd ∷ aChoice ∷ anEnd ∷ aChoice ∷ anEnd ∷ aChoice ∷ anEnd ∷ aChoice ∷ anEnd ∷ aChoice ∷ anEnd ∷ aChoice ∷ anEnd ∷ aChoice ∷ anEnd ∷ aChoice ∷ anEnd ∷ aChoice ∷ anEnd ∷ []) 65 (hex "0102") ≡ notWritten 4 0 (hex "0102"))
     -- 4 before 2
-    × (write (raw 9 0 0 0 0 0 noForm noForm ∷ []) 65 [] ≡ notWritten 4 0 [])
+    × (write (raw 9 0 0 0 0 0 noForm noForm 0 ∷ []) 65 [] ≡ notWritten 4 0 [])
     -- buffer just as long
     × (write (aWork ∷ []) 1 (hex "c9cacbcccd") ≡ written 5 (hex "0101000200"))
     -- buffer one shorter
@@ -63,133 +68,175 @@ pub writer-1 :
     -- no buffer
     × (write (aWork ∷ []) 1 [] ≡ notWritten 9 0 [])
     -- all kinds
-    × (write (aChoice ∷ aLoop ∷ aWork ∷ anEnd ∷ aNextArm ∷ anEnd ∷ []) 6 (hex "c9cacbcccdcecfd0d1d2d3d4d5d6d7d8d9dadbdcdddedfe0e1e2e3e4e5e6e7e8e9eaebec") ≡ written 34 (hex "04020000000001000000000000000000000300000000000000000101000200030503ebec"))
+    × (write (aChoice ∷ aLoop ∷ aWork ∷ anEnd ∷ aNextArm ∷ aSkipLoop ∷ anEnd ∷ anEnd ∷ []) 8 (hex "c9cacbcccdcecfd0d1d2d3d4d5d6d7d8d9dadbdcdddedfe0e1e2e3e4e5e6e7e8e9eaebecedeeeff0f1f2f3f4f5f6f7f8f9fac9cacbcccdcecfd0d1d2d3d4d5d6d7") ≡ written 62 (hex "0402000000000100000000000000000000030000000000000000010100020003050603000000010000000000000000000003000000000000000001000303d5d6d7"))
     -- a loop's fields in order, signed ones
-    × (write (raw 2 0 0 4095 258 1000 (form (negsuc 1) (pos 0 ∷ pos 0 ∷ pos 0 ∷ []) (pos 1 ∷ negsuc 0 ∷ pos 127 ∷ negsuc 127 ∷ [])) (form (pos 300) (pos 0 ∷ pos 0 ∷ pos 0 ∷ []) (negsuc 2 ∷ pos 4 ∷ pos 0 ∷ pos 5 ∷ [])) ∷ anEnd ∷ []) 2 (hex "c9cacbcccdcecfd0d1d2d3d4d5d6d7d8d9dadbdcdddedfe0e1e2") ≡ written 26 (hex "02ff0f0201e803feff00000001ff7f802c01000000fd04000503"))
+    × (write (raw 2 0 0 4095 258 1000 (form (negsuc 1) (pos 0 ∷ pos 0 ∷ pos 0 ∷ []) (pos 1 ∷ negsuc 0 ∷ pos 127 ∷ negsuc 127 ∷ [])) (form (pos 300) (pos 0 ∷ pos 0 ∷ pos 0 ∷ []) (negsuc 2 ∷ pos 4 ∷ pos 0 ∷ pos 5 ∷ [])) 0 ∷ anEnd ∷ []) 2 (hex "c9cacbcccdcecfd0d1d2d3d4d5d6d7d8d9dadbdcdddedfe0e1e2") ≡ written 26 (hex "02ff0f0201e803feff00000001ff7f802c01000000fd04000503"))
+    -- a loop's fields in order, skip last
+    × (write (raw 6 0 0 4095 258 1000 (form (negsuc 1) (pos 0 ∷ pos 0 ∷ pos 0 ∷ []) (pos 1 ∷ negsuc 0 ∷ pos 127 ∷ negsuc 127 ∷ [])) (form (pos 300) (pos 0 ∷ pos 0 ∷ pos 0 ∷ []) (negsuc 2 ∷ pos 4 ∷ pos 0 ∷ pos 5 ∷ [])) 769 ∷ anEnd ∷ []) 2 (hex "c9cacbcccdcecfd0d1d2d3d4d5d6d7d8d9dadbdcdddedfe0e1e2e3e4") ≡ written 28 (hex "06ff0f0201e803feff00000001ff7f802c01000000fd040005010303"))
+    -- a loop with a skip, buffer one shorter
+    × (write (aSkipLoop ∷ anEnd ∷ []) 2 (hex "c9cacbcccdcecfd0d1d2d3d4d5d6d7d8d9dadbdcdddedfe0e1e2e3") ≡ notWritten 9 0 (hex "c9cacbcccdcecfd0d1d2d3d4d5d6d7d8d9dadbdcdddedfe0e1e2e3"))
     -- kind 0
-    × (write (raw 0 0 0 0 0 0 noForm noForm ∷ []) 1 (hex "c9cacbcc") ≡ notWritten 2 0 (hex "c9cacbcc"))
-    -- kind 6
-    × (write (raw 6 0 0 0 0 0 noForm noForm ∷ []) 1 (hex "c9cacbcc") ≡ notWritten 2 0 (hex "c9cacbcc"))
+    × (write (raw 0 0 0 0 0 0 noForm noForm 0 ∷ []) 1 (hex "c9cacbcc") ≡ notWritten 2 0 (hex "c9cacbcc"))
+    -- kind 7
+    × (write (raw 7 0 0 0 0 0 noForm noForm 0 ∷ []) 1 (hex "c9cacbcc") ≡ notWritten 2 0 (hex "c9cacbcc"))
     -- kind 255 after a work
-    × (write (aWork ∷ raw 255 0 0 0 0 0 noForm noForm ∷ []) 2 (hex "c9cacbcc") ≡ notWritten 2 5 (hex "c9cacbcc"))
-    -- 2 before 3
-    × (write (raw 6 1 0 0 0 2000 noForm noForm ∷ []) 1 (hex "c9cacbcc") ≡ notWritten 2 0 (hex "c9cacbcc"))
-    -- most 4,095
-    × (write (raw 1 0 4095 0 0 0 noForm noForm ∷ []) 1 (hex "c9cacbcccd") ≡ written 5 (hex "010000ff0f"))
+    × (write (aWork ∷ raw 255 0 0 0 0 0 noForm noForm 0 ∷ []) 2 (hex "c9cacbcc") ≡ notWritten 2 5 (hex "c9cacbcc"))
 unfolding computes
 writer-1 = (refl, refl, refl, refl, refl, refl, refl, refl, refl, refl, refl, refl, refl, refl, refl, refl, refl, refl, refl, refl)
 
 pub writer-2 :
+    -- 2 before 3
+    (write (raw 7 1 0 0 0 2000 noForm noForm 0 ∷ []) 1 (hex "c9cacbcc") ≡ notWritten 2 0 (hex "c9cacbcc"))
+    -- most 4,095
+    × (write (raw 1 0 4095 0 0 0 noForm noForm 0 ∷ []) 1 (hex "c9cacbcccd") ≡ written 5 (hex "010000ff0f"))
     -- least 4,095
-    (write (raw 1 4095 4095 0 0 0 noForm noForm ∷ []) 1 (hex "c9cacbcccd") ≡ written 5 (hex "01ff0fff0f"))
+    × (write (raw 1 4095 4095 0 0 0 noForm noForm 0 ∷ []) 1 (hex "c9cacbcccd") ≡ written 5 (hex "01ff0fff0f"))
     -- most 4,096
-    × (write (raw 1 0 4096 0 0 0 noForm noForm ∷ []) 1 (hex "c9cacbcccd") ≡ notWritten 3 0 (hex "c9cacbcccd"))
+    × (write (raw 1 0 4096 0 0 0 noForm noForm 0 ∷ []) 1 (hex "c9cacbcccd") ≡ notWritten 3 0 (hex "c9cacbcccd"))
     -- most 65,535
-    × (write (raw 1 0 65535 0 0 0 noForm noForm ∷ []) 1 (hex "c9cacbcccd") ≡ notWritten 3 0 (hex "c9cacbcccd"))
+    × (write (raw 1 0 65535 0 0 0 noForm noForm 0 ∷ []) 1 (hex "c9cacbcccd") ≡ notWritten 3 0 (hex "c9cacbcccd"))
     -- least above most
-    × (write (raw 1 3 2 0 0 0 noForm noForm ∷ []) 1 (hex "c9cacbcccd") ≡ notWritten 3 0 (hex "c9cacbcccd"))
+    × (write (raw 1 3 2 0 0 0 noForm noForm 0 ∷ []) 1 (hex "c9cacbcccd") ≡ notWritten 3 0 (hex "c9cacbcccd"))
     -- 3 at the second record
-    × (write (aWork ∷ raw 1 1 0 0 0 0 noForm noForm ∷ []) 2 (hex "c9cacbcccdcecfd0d1d2") ≡ notWritten 3 5 (hex "c9cacbcccdcecfd0d1d2"))
+    × (write (aWork ∷ raw 1 1 0 0 0 0 noForm noForm 0 ∷ []) 2 (hex "c9cacbcccdcecfd0d1d2") ≡ notWritten 3 5 (hex "c9cacbcccdcecfd0d1d2"))
     -- start 4,095
-    × (write (raw 2 0 0 4095 0 1 noForm (form (pos 3) (pos 0 ∷ pos 0 ∷ pos 0 ∷ []) (pos 0 ∷ pos 0 ∷ pos 0 ∷ pos 0 ∷ [])) ∷ anEnd ∷ []) 2 (hex "c9cacbcccdcecfd0d1d2d3d4d5d6d7d8d9dadbdcdddedfe0e1e2") ≡ written 26 (hex "02ff0f0000010000000000000000000003000000000000000003"))
+    × (write (raw 2 0 0 4095 0 1 noForm (form (pos 3) (pos 0 ∷ pos 0 ∷ pos 0 ∷ []) (pos 0 ∷ pos 0 ∷ pos 0 ∷ pos 0 ∷ [])) 0 ∷ anEnd ∷ []) 2 (hex "c9cacbcccdcecfd0d1d2d3d4d5d6d7d8d9dadbdcdddedfe0e1e2") ≡ written 26 (hex "02ff0f0000010000000000000000000003000000000000000003"))
     -- start 4,096
-    × (write (raw 2 0 0 4096 0 1 noForm (form (pos 3) (pos 0 ∷ pos 0 ∷ pos 0 ∷ []) (pos 0 ∷ pos 0 ∷ pos 0 ∷ pos 0 ∷ [])) ∷ anEnd ∷ []) 2 (hex "c9cacbcccdcecfd0d1d2d3d4d5d6d7d8d9dadbdcdddedfe0e1e2") ≡ notWritten 3 0 (hex "c9cacbcccdcecfd0d1d2d3d4d5d6d7d8d9dadbdcdddedfe0e1e2"))
+    × (write (raw 2 0 0 4096 0 1 noForm (form (pos 3) (pos 0 ∷ pos 0 ∷ pos 0 ∷ []) (pos 0 ∷ pos 0 ∷ pos 0 ∷ pos 0 ∷ [])) 0 ∷ anEnd ∷ []) 2 (hex "c9cacbcccdcecfd0d1d2d3d4d5d6d7d8d9dadbdcdddedfe0e1e2") ≡ notWritten 3 0 (hex "c9cacbcccdcecfd0d1d2d3d4d5d6d7d8d9dadbdcdddedfe0e1e2"))
     -- step 4,095
-    × (write (raw 2 0 0 0 4095 1 noForm (form (pos 3) (pos 0 ∷ pos 0 ∷ pos 0 ∷ []) (pos 0 ∷ pos 0 ∷ pos 0 ∷ pos 0 ∷ [])) ∷ anEnd ∷ []) 2 (hex "c9cacbcccdcecfd0d1d2d3d4d5d6d7d8d9dadbdcdddedfe0e1e2") ≡ written 26 (hex "020000ff0f010000000000000000000003000000000000000003"))
+    × (write (raw 2 0 0 0 4095 1 noForm (form (pos 3) (pos 0 ∷ pos 0 ∷ pos 0 ∷ []) (pos 0 ∷ pos 0 ∷ pos 0 ∷ pos 0 ∷ [])) 0 ∷ anEnd ∷ []) 2 (hex "c9cacbcccdcecfd0d1d2d3d4d5d6d7d8d9dadbdcdddedfe0e1e2") ≡ written 26 (hex "020000ff0f010000000000000000000003000000000000000003"))
     -- step 4,096
-    × (write (raw 2 0 0 0 4096 1 noForm (form (pos 3) (pos 0 ∷ pos 0 ∷ pos 0 ∷ []) (pos 0 ∷ pos 0 ∷ pos 0 ∷ pos 0 ∷ [])) ∷ anEnd ∷ []) 2 (hex "c9cacbcccdcecfd0d1d2d3d4d5d6d7d8d9dadbdcdddedfe0e1e2") ≡ notWritten 3 0 (hex "c9cacbcccdcecfd0d1d2d3d4d5d6d7d8d9dadbdcdddedfe0e1e2"))
+    × (write (raw 2 0 0 0 4096 1 noForm (form (pos 3) (pos 0 ∷ pos 0 ∷ pos 0 ∷ []) (pos 0 ∷ pos 0 ∷ pos 0 ∷ pos 0 ∷ [])) 0 ∷ anEnd ∷ []) 2 (hex "c9cacbcccdcecfd0d1d2d3d4d5d6d7d8d9dadbdcdddedfe0e1e2") ≡ notWritten 3 0 (hex "c9cacbcccdcecfd0d1d2d3d4d5d6d7d8d9dadbdcdddedfe0e1e2"))
     -- stride 0
-    × (write (raw 2 0 0 0 0 0 noForm (form (pos 3) (pos 0 ∷ pos 0 ∷ pos 0 ∷ []) (pos 0 ∷ pos 0 ∷ pos 0 ∷ pos 0 ∷ [])) ∷ anEnd ∷ []) 2 (hex "c9cacbcccdcecfd0d1d2d3d4d5d6d7d8d9dadbdcdddedfe0e1e2") ≡ notWritten 3 0 (hex "c9cacbcccdcecfd0d1d2d3d4d5d6d7d8d9dadbdcdddedfe0e1e2"))
+    × (write (raw 2 0 0 0 0 0 noForm (form (pos 3) (pos 0 ∷ pos 0 ∷ pos 0 ∷ []) (pos 0 ∷ pos 0 ∷ pos 0 ∷ pos 0 ∷ [])) 0 ∷ anEnd ∷ []) 2 (hex "c9cacbcccdcecfd0d1d2d3d4d5d6d7d8d9dadbdcdddedfe0e1e2") ≡ notWritten 3 0 (hex "c9cacbcccdcecfd0d1d2d3d4d5d6d7d8d9dadbdcdddedfe0e1e2"))
     -- stride 1,000
-    × (write (raw 2 0 0 0 0 1000 noForm (form (pos 3) (pos 0 ∷ pos 0 ∷ pos 0 ∷ []) (pos 0 ∷ pos 0 ∷ pos 0 ∷ pos 0 ∷ [])) ∷ anEnd ∷ []) 2 (hex "c9cacbcccdcecfd0d1d2d3d4d5d6d7d8d9dadbdcdddedfe0e1e2") ≡ written 26 (hex "0200000000e80300000000000000000003000000000000000003"))
+    × (write (raw 2 0 0 0 0 1000 noForm (form (pos 3) (pos 0 ∷ pos 0 ∷ pos 0 ∷ []) (pos 0 ∷ pos 0 ∷ pos 0 ∷ pos 0 ∷ [])) 0 ∷ anEnd ∷ []) 2 (hex "c9cacbcccdcecfd0d1d2d3d4d5d6d7d8d9dadbdcdddedfe0e1e2") ≡ written 26 (hex "0200000000e80300000000000000000003000000000000000003"))
     -- stride 1,001
-    × (write (raw 2 0 0 0 0 1001 noForm (form (pos 3) (pos 0 ∷ pos 0 ∷ pos 0 ∷ []) (pos 0 ∷ pos 0 ∷ pos 0 ∷ pos 0 ∷ [])) ∷ anEnd ∷ []) 2 (hex "c9cacbcccdcecfd0d1d2d3d4d5d6d7d8d9dadbdcdddedfe0e1e2") ≡ notWritten 3 0 (hex "c9cacbcccdcecfd0d1d2d3d4d5d6d7d8d9dadbdcdddedfe0e1e2"))
-    -- lower form's own depth
-    × (write (raw 2 0 0 0 0 1 (form (pos 0) (pos 1 ∷ pos 0 ∷ pos 0 ∷ []) (pos 0 ∷ pos 0 ∷ pos 0 ∷ pos 0 ∷ [])) (form (pos 3) (pos 0 ∷ pos 0 ∷ pos 0 ∷ []) (pos 0 ∷ pos 0 ∷ pos 0 ∷ pos 0 ∷ [])) ∷ anEnd ∷ []) 2 (hex "c9cacbcccdcecfd0d1d2d3d4d5d6d7d8d9dadbdcdddedfe0e1e2") ≡ notWritten 3 0 (hex "c9cacbcccdcecfd0d1d2d3d4d5d6d7d8d9dadbdcdddedfe0e1e2"))
-    -- upper form's depth 3
-    × (write (raw 2 0 0 0 0 1 noForm (form (pos 0) (pos 0 ∷ pos 0 ∷ negsuc 0 ∷ []) (pos 0 ∷ pos 0 ∷ pos 0 ∷ pos 0 ∷ [])) ∷ anEnd ∷ []) 2 (hex "c9cacbcccdcecfd0d1d2d3d4d5d6d7d8d9dadbdcdddedfe0e1e2") ≡ notWritten 3 0 (hex "c9cacbcccdcecfd0d1d2d3d4d5d6d7d8d9dadbdcdddedfe0e1e2"))
-    -- enclosing depth
-    × (write (aLoop ∷ raw 2 0 0 0 0 1 (form (pos 0) (negsuc 0 ∷ pos 0 ∷ pos 0 ∷ []) (pos 0 ∷ pos 0 ∷ pos 0 ∷ pos 0 ∷ [])) (form (pos 0) (pos 1 ∷ pos 0 ∷ pos 0 ∷ []) (pos 0 ∷ pos 0 ∷ pos 0 ∷ pos 0 ∷ [])) ∷ anEnd ∷ anEnd ∷ []) 4 (hex "c9cacbcccdcecfd0d1d2d3d4d5d6d7d8d9dadbdcdddedfe0e1e2e3e4e5e6e7e8e9eaebecedeeeff0f1f2f3f4f5f6f7f8f9fac9ca") ≡ written 52 (hex "02000000000100000000000000000000030000000000000000020000000001000000ff0000000000000000010000000000000303"))
-    -- own depth 2
-    × (write (aLoop ∷ raw 2 0 0 0 0 1 noForm (form (pos 0) (pos 0 ∷ pos 1 ∷ pos 0 ∷ []) (pos 0 ∷ pos 0 ∷ pos 0 ∷ pos 0 ∷ [])) ∷ []) 2 (hex "c9cacbcccdcecfd0d1d2d3d4d5d6d7d8d9dadbdcdddedfe0e1e2e3e4e5e6") ≡ notWritten 3 25 (hex "c9cacbcccdcecfd0d1d2d3d4d5d6d7d8d9dadbdcdddedfe0e1e2e3e4e5e6"))
-    -- a choice is no depth
-    × (write (aChoice ∷ raw 2 0 0 0 0 1 noForm (form (pos 0) (pos 1 ∷ pos 0 ∷ pos 0 ∷ []) (pos 0 ∷ pos 0 ∷ pos 0 ∷ pos 0 ∷ [])) ∷ []) 2 (hex "c9cacbcccdcecfd0d1d2d3d4d5d6d7d8d9dadbdcdddedfe0e1e2e3e4e5e6") ≡ notWritten 3 1 (hex "c9cacbcccdcecfd0d1d2d3d4d5d6d7d8d9dadbdcdddedfe0e1e2e3e4e5e6"))
-    -- work with a start
-    × (write (aChoice ∷ raw 1 1 2 1 0 0 noForm noForm ∷ []) 2 (hex "c9cacbcc") ≡ notWritten 3 1 (hex "c9cacbcc"))
-    -- work with a step
-    × (write (aChoice ∷ raw 1 1 2 0 1 0 noForm noForm ∷ []) 2 (hex "c9cacbcc") ≡ notWritten 3 1 (hex "c9cacbcc"))
-    -- work with a stride
-    × (write (aChoice ∷ raw 1 1 2 0 0 1 noForm noForm ∷ []) 2 (hex "c9cacbcc") ≡ notWritten 3 1 (hex "c9cacbcc"))
+    × (write (raw 2 0 0 0 0 1001 noForm (form (pos 3) (pos 0 ∷ pos 0 ∷ pos 0 ∷ []) (pos 0 ∷ pos 0 ∷ pos 0 ∷ pos 0 ∷ [])) 0 ∷ anEnd ∷ []) 2 (hex "c9cacbcccdcecfd0d1d2d3d4d5d6d7d8d9dadbdcdddedfe0e1e2") ≡ notWritten 3 0 (hex "c9cacbcccdcecfd0d1d2d3d4d5d6d7d8d9dadbdcdddedfe0e1e2"))
+    -- skip 4,095
+    × (write (raw 6 0 0 3 0 1 noForm (form (pos 3) (pos 0 ∷ pos 0 ∷ pos 0 ∷ []) (pos 0 ∷ pos 0 ∷ pos 0 ∷ pos 0 ∷ [])) 4095 ∷ anEnd ∷ []) 2 (hex "c9cacbcccdcecfd0d1d2d3d4d5d6d7d8d9dadbdcdddedfe0e1e2e3e4") ≡ written 28 (hex "06030000000100000000000000000000030000000000000000ff0f03"))
+    -- skip 4,096
+    × (write (raw 6 0 0 3 0 1 noForm (form (pos 3) (pos 0 ∷ pos 0 ∷ pos 0 ∷ []) (pos 0 ∷ pos 0 ∷ pos 0 ∷ pos 0 ∷ [])) 4096 ∷ anEnd ∷ []) 2 (hex "c9cacbcccdcecfd0d1d2d3d4d5d6d7d8d9dadbdcdddedfe0e1e2e3e4") ≡ notWritten 3 0 (hex "c9cacbcccdcecfd0d1d2d3d4d5d6d7d8d9dadbdcdddedfe0e1e2e3e4"))
+    -- skip 65,535
+    × (write (raw 6 0 0 3 0 1 noForm (form (pos 3) (pos 0 ∷ pos 0 ∷ pos 0 ∷ []) (pos 0 ∷ pos 0 ∷ pos 0 ∷ pos 0 ∷ [])) 65535 ∷ anEnd ∷ []) 2 (hex "c9cacbcccdcecfd0d1d2d3d4d5d6d7d8d9dadbdcdddedfe0e1e2e3e4") ≡ notWritten 3 0 (hex "c9cacbcccdcecfd0d1d2d3d4d5d6d7d8d9dadbdcdddedfe0e1e2e3e4"))
+    -- skip 0
+    × (write (raw 6 0 0 3 0 1 noForm (form (pos 3) (pos 0 ∷ pos 0 ∷ pos 0 ∷ []) (pos 0 ∷ pos 0 ∷ pos 0 ∷ pos 0 ∷ [])) 0 ∷ anEnd ∷ []) 2 (hex "c9cacbcccdcecfd0d1d2d3d4d5d6d7d8d9dadbdcdddedfe0e1e2e3e4") ≡ written 28 (hex "06030000000100000000000000000000030000000000000000000003"))
+    -- skip equal to start
+    × (write (raw 6 0 0 3 0 1 noForm (form (pos 3) (pos 0 ∷ pos 0 ∷ pos 0 ∷ []) (pos 0 ∷ pos 0 ∷ pos 0 ∷ pos 0 ∷ [])) 3 ∷ anEnd ∷ []) 2 (hex "c9cacbcccdcecfd0d1d2d3d4d5d6d7d8d9dadbdcdddedfe0e1e2e3e4") ≡ written 28 (hex "06030000000100000000000000000000030000000000000000030003"))
+    -- kind 2 with a skip equal to start
+    × (write (raw 2 0 0 3 0 1 noForm (form (pos 3) (pos 0 ∷ pos 0 ∷ pos 0 ∷ []) (pos 0 ∷ pos 0 ∷ pos 0 ∷ pos 0 ∷ [])) 3 ∷ anEnd ∷ []) 2 (hex "c9cacbcccdcecfd0d1d2d3d4d5d6d7d8d9dadbdcdddedfe0e1e2") ≡ notWritten 3 0 (hex "c9cacbcccdcecfd0d1d2d3d4d5d6d7d8d9dadbdcdddedfe0e1e2"))
 unfolding computes
 writer-2 = (refl, refl, refl, refl, refl, refl, refl, refl, refl, refl, refl, refl, refl, refl, refl, refl, refl, refl, refl, refl)
 
 pub writer-3 :
+    -- start 4,096 of kind 6
+    (write (raw 6 0 0 4096 0 1 noForm (form (pos 3) (pos 0 ∷ pos 0 ∷ pos 0 ∷ []) (pos 0 ∷ pos 0 ∷ pos 0 ∷ pos 0 ∷ [])) 1 ∷ anEnd ∷ []) 2 (hex "c9cacbcccdcecfd0d1d2d3d4d5d6d7d8d9dadbdcdddedfe0e1e2e3e4") ≡ notWritten 3 0 (hex "c9cacbcccdcecfd0d1d2d3d4d5d6d7d8d9dadbdcdddedfe0e1e2e3e4"))
+    -- stride 0 of kind 6
+    × (write (raw 6 0 0 3 0 0 noForm (form (pos 3) (pos 0 ∷ pos 0 ∷ pos 0 ∷ []) (pos 0 ∷ pos 0 ∷ pos 0 ∷ pos 0 ∷ [])) 1 ∷ anEnd ∷ []) 2 (hex "c9cacbcccdcecfd0d1d2d3d4d5d6d7d8d9dadbdcdddedfe0e1e2e3e4") ≡ notWritten 3 0 (hex "c9cacbcccdcecfd0d1d2d3d4d5d6d7d8d9dadbdcdddedfe0e1e2e3e4"))
+    -- lower form's own depth of kind 6
+    × (write (raw 6 0 0 3 0 1 (form (pos 0) (pos 1 ∷ pos 0 ∷ pos 0 ∷ []) (pos 0 ∷ pos 0 ∷ pos 0 ∷ pos 0 ∷ [])) (form (pos 3) (pos 0 ∷ pos 0 ∷ pos 0 ∷ []) (pos 0 ∷ pos 0 ∷ pos 0 ∷ pos 0 ∷ [])) 1 ∷ anEnd ∷ []) 2 (hex "c9cacbcccdcecfd0d1d2d3d4d5d6d7d8d9dadbdcdddedfe0e1e2e3e4") ≡ notWritten 3 0 (hex "c9cacbcccdcecfd0d1d2d3d4d5d6d7d8d9dadbdcdddedfe0e1e2e3e4"))
+    -- lower form's own depth
+    × (write (raw 2 0 0 0 0 1 (form (pos 0) (pos 1 ∷ pos 0 ∷ pos 0 ∷ []) (pos 0 ∷ pos 0 ∷ pos 0 ∷ pos 0 ∷ [])) (form (pos 3) (pos 0 ∷ pos 0 ∷ pos 0 ∷ []) (pos 0 ∷ pos 0 ∷ pos 0 ∷ pos 0 ∷ [])) 0 ∷ anEnd ∷ []) 2 (hex "c9cacbcccdcecfd0d1d2d3d4d5d6d7d8d9dadbdcdddedfe0e1e2") ≡ notWritten 3 0 (hex "c9cacbcccdcecfd0d1d2d3d4d5d6d7d8d9dadbdcdddedfe0e1e2"))
+    -- upper form's depth 3
+    × (write (raw 2 0 0 0 0 1 noForm (form (pos 0) (pos 0 ∷ pos 0 ∷ negsuc 0 ∷ []) (pos 0 ∷ pos 0 ∷ pos 0 ∷ pos 0 ∷ [])) 0 ∷ anEnd ∷ []) 2 (hex "c9cacbcccdcecfd0d1d2d3d4d5d6d7d8d9dadbdcdddedfe0e1e2") ≡ notWritten 3 0 (hex "c9cacbcccdcecfd0d1d2d3d4d5d6d7d8d9dadbdcdddedfe0e1e2"))
+    -- enclosing depth
+    × (write (aLoop ∷ raw 2 0 0 0 0 1 (form (pos 0) (negsuc 0 ∷ pos 0 ∷ pos 0 ∷ []) (pos 0 ∷ pos 0 ∷ pos 0 ∷ pos 0 ∷ [])) (form (pos 0) (pos 1 ∷ pos 0 ∷ pos 0 ∷ []) (pos 0 ∷ pos 0 ∷ pos 0 ∷ pos 0 ∷ [])) 0 ∷ anEnd ∷ anEnd ∷ []) 4 (hex "c9cacbcccdcecfd0d1d2d3d4d5d6d7d8d9dadbdcdddedfe0e1e2e3e4e5e6e7e8e9eaebecedeeeff0f1f2f3f4f5f6f7f8f9fac9ca") ≡ written 52 (hex "02000000000100000000000000000000030000000000000000020000000001000000ff0000000000000000010000000000000303"))
+    -- enclosing depth of kind 6, a record's offset after it
+    × (write (aSkipLoop ∷ raw 2 0 0 0 0 1 (form (pos 0) (negsuc 0 ∷ pos 0 ∷ pos 0 ∷ []) (pos 0 ∷ pos 0 ∷ pos 0 ∷ pos 0 ∷ [])) (form (pos 0) (pos 1 ∷ pos 0 ∷ pos 0 ∷ []) (pos 0 ∷ pos 0 ∷ pos 0 ∷ pos 0 ∷ [])) 0 ∷ raw 1 2 1 0 0 0 noForm noForm 0 ∷ []) 3 (hex "c9cacbcccdcecfd0d1d2d3d4d5d6d7d8d9dadbdcdddedfe0e1e2e3e4e5e6e7e8e9eaebecedeeeff0f1f2f3f4f5f6f7f8f9fac9cacbcccdcecfd0d1d2") ≡ notWritten 3 52 (hex "c9cacbcccdcecfd0d1d2d3d4d5d6d7d8d9dadbdcdddedfe0e1e2e3e4e5e6e7e8e9eaebecedeeeff0f1f2f3f4f5f6f7f8f9fac9cacbcccdcecfd0d1d2"))
+    -- own depth 2
+    × (write (aLoop ∷ raw 2 0 0 0 0 1 noForm (form (pos 0) (pos 0 ∷ pos 1 ∷ pos 0 ∷ []) (pos 0 ∷ pos 0 ∷ pos 0 ∷ pos 0 ∷ [])) 0 ∷ []) 2 (hex "c9cacbcccdcecfd0d1d2d3d4d5d6d7d8d9dadbdcdddedfe0e1e2e3e4e5e6") ≡ notWritten 3 25 (hex "c9cacbcccdcecfd0d1d2d3d4d5d6d7d8d9dadbdcdddedfe0e1e2e3e4e5e6"))
+    -- a choice is no depth
+    × (write (aChoice ∷ raw 2 0 0 0 0 1 noForm (form (pos 0) (pos 1 ∷ pos 0 ∷ pos 0 ∷ []) (pos 0 ∷ pos 0 ∷ pos 0 ∷ pos 0 ∷ [])) 0 ∷ []) 2 (hex "c9cacbcccdcecfd0d1d2d3d4d5d6d7d8d9dadbdcdddedfe0e1e2e3e4e5e6") ≡ notWritten 3 1 (hex "c9cacbcccdcecfd0d1d2d3d4d5d6d7d8d9dadbdcdddedfe0e1e2e3e4e5e6"))
+    -- work with a start
+    × (write (aChoice ∷ raw 1 1 2 1 0 0 noForm noForm 0 ∷ []) 2 (hex "c9cacbcc") ≡ notWritten 3 1 (hex "c9cacbcc"))
+    -- work with a step
+    × (write (aChoice ∷ raw 1 1 2 0 1 0 noForm noForm 0 ∷ []) 2 (hex "c9cacbcc") ≡ notWritten 3 1 (hex "c9cacbcc"))
+    -- work with a stride
+    × (write (aChoice ∷ raw 1 1 2 0 0 1 noForm noForm 0 ∷ []) 2 (hex "c9cacbcc") ≡ notWritten 3 1 (hex "c9cacbcc"))
     -- work with a lower
-    (write (aChoice ∷ raw 1 1 2 0 0 0 (form (pos 1) (pos 0 ∷ pos 0 ∷ pos 0 ∷ []) (pos 0 ∷ pos 0 ∷ pos 0 ∷ pos 0 ∷ [])) noForm ∷ []) 2 (hex "c9cacbcc") ≡ notWritten 3 1 (hex "c9cacbcc"))
+    × (write (aChoice ∷ raw 1 1 2 0 0 0 (form (pos 1) (pos 0 ∷ pos 0 ∷ pos 0 ∷ []) (pos 0 ∷ pos 0 ∷ pos 0 ∷ pos 0 ∷ [])) noForm 0 ∷ []) 2 (hex "c9cacbcc") ≡ notWritten 3 1 (hex "c9cacbcc"))
     -- work with a upper
-    × (write (aChoice ∷ raw 1 1 2 0 0 0 noForm (form (pos 0) (pos 0 ∷ pos 0 ∷ pos 0 ∷ []) (pos 0 ∷ pos 0 ∷ pos 0 ∷ negsuc 0 ∷ [])) ∷ []) 2 (hex "c9cacbcc") ≡ notWritten 3 1 (hex "c9cacbcc"))
+    × (write (aChoice ∷ raw 1 1 2 0 0 0 noForm (form (pos 0) (pos 0 ∷ pos 0 ∷ pos 0 ∷ []) (pos 0 ∷ pos 0 ∷ pos 0 ∷ negsuc 0 ∷ [])) 0 ∷ []) 2 (hex "c9cacbcc") ≡ notWritten 3 1 (hex "c9cacbcc"))
+    -- work with a skip
+    × (write (aChoice ∷ raw 1 1 2 0 0 0 noForm noForm 1 ∷ []) 2 (hex "c9cacbcc") ≡ notWritten 3 1 (hex "c9cacbcc"))
     -- loop with a least
-    × (write (aChoice ∷ raw 2 1 0 0 0 1 noForm (form (pos 3) (pos 0 ∷ pos 0 ∷ pos 0 ∷ []) (pos 0 ∷ pos 0 ∷ pos 0 ∷ pos 0 ∷ [])) ∷ []) 2 (hex "c9cacbcc") ≡ notWritten 3 1 (hex "c9cacbcc"))
+    × (write (aChoice ∷ raw 2 1 0 0 0 1 noForm (form (pos 3) (pos 0 ∷ pos 0 ∷ pos 0 ∷ []) (pos 0 ∷ pos 0 ∷ pos 0 ∷ pos 0 ∷ [])) 0 ∷ []) 2 (hex "c9cacbcc") ≡ notWritten 3 1 (hex "c9cacbcc"))
     -- loop with a most
-    × (write (aChoice ∷ raw 2 0 1 0 0 1 noForm (form (pos 3) (pos 0 ∷ pos 0 ∷ pos 0 ∷ []) (pos 0 ∷ pos 0 ∷ pos 0 ∷ pos 0 ∷ [])) ∷ []) 2 (hex "c9cacbcc") ≡ notWritten 3 1 (hex "c9cacbcc"))
+    × (write (aChoice ∷ raw 2 0 1 0 0 1 noForm (form (pos 3) (pos 0 ∷ pos 0 ∷ pos 0 ∷ []) (pos 0 ∷ pos 0 ∷ pos 0 ∷ pos 0 ∷ [])) 0 ∷ []) 2 (hex "c9cacbcc") ≡ notWritten 3 1 (hex "c9cacbcc"))
+    -- loop with a skip
+    × (write (aChoice ∷ raw 2 0 0 0 0 1 noForm (form (pos 3) (pos 0 ∷ pos 0 ∷ pos 0 ∷ []) (pos 0 ∷ pos 0 ∷ pos 0 ∷ pos 0 ∷ [])) 1 ∷ []) 2 (hex "c9cacbcc") ≡ notWritten 3 1 (hex "c9cacbcc"))
     -- end with a least
-    × (write (aChoice ∷ raw 3 1 0 0 0 0 noForm noForm ∷ []) 2 (hex "c9cacbcc") ≡ notWritten 3 1 (hex "c9cacbcc"))
+    × (write (aChoice ∷ raw 3 1 0 0 0 0 noForm noForm 0 ∷ []) 2 (hex "c9cacbcc") ≡ notWritten 3 1 (hex "c9cacbcc"))
     -- end with a most
-    × (write (aChoice ∷ raw 3 0 1 0 0 0 noForm noForm ∷ []) 2 (hex "c9cacbcc") ≡ notWritten 3 1 (hex "c9cacbcc"))
-    -- end with a start
-    × (write (aChoice ∷ raw 3 0 0 1 0 0 noForm noForm ∷ []) 2 (hex "c9cacbcc") ≡ notWritten 3 1 (hex "c9cacbcc"))
-    -- end with a step
-    × (write (aChoice ∷ raw 3 0 0 0 1 0 noForm noForm ∷ []) 2 (hex "c9cacbcc") ≡ notWritten 3 1 (hex "c9cacbcc"))
-    -- end with a stride
-    × (write (aChoice ∷ raw 3 0 0 0 0 1 noForm noForm ∷ []) 2 (hex "c9cacbcc") ≡ notWritten 3 1 (hex "c9cacbcc"))
-    -- end with a lower
-    × (write (aChoice ∷ raw 3 0 0 0 0 0 (form (pos 1) (pos 0 ∷ pos 0 ∷ pos 0 ∷ []) (pos 0 ∷ pos 0 ∷ pos 0 ∷ pos 0 ∷ [])) noForm ∷ []) 2 (hex "c9cacbcc") ≡ notWritten 3 1 (hex "c9cacbcc"))
-    -- end with a upper
-    × (write (aChoice ∷ raw 3 0 0 0 0 0 noForm (form (pos 0) (pos 0 ∷ pos 0 ∷ pos 0 ∷ []) (pos 0 ∷ pos 0 ∷ pos 0 ∷ negsuc 0 ∷ [])) ∷ []) 2 (hex "c9cacbcc") ≡ notWritten 3 1 (hex "c9cacbcc"))
-    -- choice with a least
-    × (write (aChoice ∷ raw 4 1 0 0 0 0 noForm noForm ∷ []) 2 (hex "c9cacbcc") ≡ notWritten 3 1 (hex "c9cacbcc"))
-    -- choice with a most
-    × (write (aChoice ∷ raw 4 0 1 0 0 0 noForm noForm ∷ []) 2 (hex "c9cacbcc") ≡ notWritten 3 1 (hex "c9cacbcc"))
-    -- choice with a start
-    × (write (aChoice ∷ raw 4 0 0 1 0 0 noForm noForm ∷ []) 2 (hex "c9cacbcc") ≡ notWritten 3 1 (hex "c9cacbcc"))
-    -- choice with a step
-    × (write (aChoice ∷ raw 4 0 0 0 1 0 noForm noForm ∷ []) 2 (hex "c9cacbcc") ≡ notWritten 3 1 (hex "c9cacbcc"))
-    -- choice with a stride
-    × (write (aChoice ∷ raw 4 0 0 0 0 1 noForm noForm ∷ []) 2 (hex "c9cacbcc") ≡ notWritten 3 1 (hex "c9cacbcc"))
-    -- choice with a lower
-    × (write (aChoice ∷ raw 4 0 0 0 0 0 (form (pos 1) (pos 0 ∷ pos 0 ∷ pos 0 ∷ []) (pos 0 ∷ pos 0 ∷ pos 0 ∷ pos 0 ∷ [])) noForm ∷ []) 2 (hex "c9cacbcc") ≡ notWritten 3 1 (hex "c9cacbcc"))
-    -- choice with a upper
-    × (write (aChoice ∷ raw 4 0 0 0 0 0 noForm (form (pos 0) (pos 0 ∷ pos 0 ∷ pos 0 ∷ []) (pos 0 ∷ pos 0 ∷ pos 0 ∷ negsuc 0 ∷ [])) ∷ []) 2 (hex "c9cacbcc") ≡ notWritten 3 1 (hex "c9cacbcc"))
-    -- next arm with a least
-    × (write (aChoice ∷ raw 5 1 0 0 0 0 noForm noForm ∷ []) 2 (hex "c9cacbcc") ≡ notWritten 3 1 (hex "c9cacbcc"))
-    -- next arm with a most
-    × (write (aChoice ∷ raw 5 0 1 0 0 0 noForm noForm ∷ []) 2 (hex "c9cacbcc") ≡ notWritten 3 1 (hex "c9cacbcc"))
+    × (write (aChoice ∷ raw 3 0 1 0 0 0 noForm noForm 0 ∷ []) 2 (hex "c9cacbcc") ≡ notWritten 3 1 (hex "c9cacbcc"))
 unfolding computes
 writer-3 = (refl, refl, refl, refl, refl, refl, refl, refl, refl, refl, refl, refl, refl, refl, refl, refl, refl, refl, refl, refl)
 
 pub writer-4 :
+    -- end with a start
+    (write (aChoice ∷ raw 3 0 0 1 0 0 noForm noForm 0 ∷ []) 2 (hex "c9cacbcc") ≡ notWritten 3 1 (hex "c9cacbcc"))
+    -- end with a step
+    × (write (aChoice ∷ raw 3 0 0 0 1 0 noForm noForm 0 ∷ []) 2 (hex "c9cacbcc") ≡ notWritten 3 1 (hex "c9cacbcc"))
+    -- end with a stride
+    × (write (aChoice ∷ raw 3 0 0 0 0 1 noForm noForm 0 ∷ []) 2 (hex "c9cacbcc") ≡ notWritten 3 1 (hex "c9cacbcc"))
+    -- end with a lower
+    × (write (aChoice ∷ raw 3 0 0 0 0 0 (form (pos 1) (pos 0 ∷ pos 0 ∷ pos 0 ∷ []) (pos 0 ∷ pos 0 ∷ pos 0 ∷ pos 0 ∷ [])) noForm 0 ∷ []) 2 (hex "c9cacbcc") ≡ notWritten 3 1 (hex "c9cacbcc"))
+    -- end with a upper
+    × (write (aChoice ∷ raw 3 0 0 0 0 0 noForm (form (pos 0) (pos 0 ∷ pos 0 ∷ pos 0 ∷ []) (pos 0 ∷ pos 0 ∷ pos 0 ∷ negsuc 0 ∷ [])) 0 ∷ []) 2 (hex "c9cacbcc") ≡ notWritten 3 1 (hex "c9cacbcc"))
+    -- end with a skip
+    × (write (aChoice ∷ raw 3 0 0 0 0 0 noForm noForm 1 ∷ []) 2 (hex "c9cacbcc") ≡ notWritten 3 1 (hex "c9cacbcc"))
+    -- choice with a least
+    × (write (aChoice ∷ raw 4 1 0 0 0 0 noForm noForm 0 ∷ []) 2 (hex "c9cacbcc") ≡ notWritten 3 1 (hex "c9cacbcc"))
+    -- choice with a most
+    × (write (aChoice ∷ raw 4 0 1 0 0 0 noForm noForm 0 ∷ []) 2 (hex "c9cacbcc") ≡ notWritten 3 1 (hex "c9cacbcc"))
+    -- choice with a start
+    × (write (aChoice ∷ raw 4 0 0 1 0 0 noForm noForm 0 ∷ []) 2 (hex "c9cacbcc") ≡ notWritten 3 1 (hex "c9cacbcc"))
+    -- choice with a step
+    × (write (aChoice ∷ raw 4 0 0 0 1 0 noForm noForm 0 ∷ []) 2 (hex "c9cacbcc") ≡ notWritten 3 1 (hex "c9cacbcc"))
+    -- choice with a stride
+    × (write (aChoice ∷ raw 4 0 0 0 0 1 noForm noForm 0 ∷ []) 2 (hex "c9cacbcc") ≡ notWritten 3 1 (hex "c9cacbcc"))
+    -- choice with a lower
+    × (write (aChoice ∷ raw 4 0 0 0 0 0 (form (pos 1) (pos 0 ∷ pos 0 ∷ pos 0 ∷ []) (pos 0 ∷ pos 0 ∷ pos 0 ∷ pos 0 ∷ [])) noForm 0 ∷ []) 2 (hex "c9cacbcc") ≡ notWritten 3 1 (hex "c9cacbcc"))
+    -- choice with a upper
+    × (write (aChoice ∷ raw 4 0 0 0 0 0 noForm (form (pos 0) (pos 0 ∷ pos 0 ∷ pos 0 ∷ []) (pos 0 ∷ pos 0 ∷ pos 0 ∷ negsuc 0 ∷ [])) 0 ∷ []) 2 (hex "c9cacbcc") ≡ notWritten 3 1 (hex "c9cacbcc"))
+    -- choice with a skip
+    × (write (aChoice ∷ raw 4 0 0 0 0 0 noForm noForm 1 ∷ []) 2 (hex "c9cacbcc") ≡ notWritten 3 1 (hex "c9cacbcc"))
+    -- next arm with a least
+    × (write (aChoice ∷ raw 5 1 0 0 0 0 noForm noForm 0 ∷ []) 2 (hex "c9cacbcc") ≡ notWritten 3 1 (hex "c9cacbcc"))
+    -- next arm with a most
+    × (write (aChoice ∷ raw 5 0 1 0 0 0 noForm noForm 0 ∷ []) 2 (hex "c9cacbcc") ≡ notWritten 3 1 (hex "c9cacbcc"))
     -- next arm with a start
-    (write (aChoice ∷ raw 5 0 0 1 0 0 noForm noForm ∷ []) 2 (hex "c9cacbcc") ≡ notWritten 3 1 (hex "c9cacbcc"))
+    × (write (aChoice ∷ raw 5 0 0 1 0 0 noForm noForm 0 ∷ []) 2 (hex "c9cacbcc") ≡ notWritten 3 1 (hex "c9cacbcc"))
     -- next arm with a step
-    × (write (aChoice ∷ raw 5 0 0 0 1 0 noForm noForm ∷ []) 2 (hex "c9cacbcc") ≡ notWritten 3 1 (hex "c9cacbcc"))
+    × (write (aChoice ∷ raw 5 0 0 0 1 0 noForm noForm 0 ∷ []) 2 (hex "c9cacbcc") ≡ notWritten 3 1 (hex "c9cacbcc"))
     -- next arm with a stride
-    × (write (aChoice ∷ raw 5 0 0 0 0 1 noForm noForm ∷ []) 2 (hex "c9cacbcc") ≡ notWritten 3 1 (hex "c9cacbcc"))
+    × (write (aChoice ∷ raw 5 0 0 0 0 1 noForm noForm 0 ∷ []) 2 (hex "c9cacbcc") ≡ notWritten 3 1 (hex "c9cacbcc"))
     -- next arm with a lower
-    × (write (aChoice ∷ raw 5 0 0 0 0 0 (form (pos 1) (pos 0 ∷ pos 0 ∷ pos 0 ∷ []) (pos 0 ∷ pos 0 ∷ pos 0 ∷ pos 0 ∷ [])) noForm ∷ []) 2 (hex "c9cacbcc") ≡ notWritten 3 1 (hex "c9cacbcc"))
+    × (write (aChoice ∷ raw 5 0 0 0 0 0 (form (pos 1) (pos 0 ∷ pos 0 ∷ pos 0 ∷ []) (pos 0 ∷ pos 0 ∷ pos 0 ∷ pos 0 ∷ [])) noForm 0 ∷ []) 2 (hex "c9cacbcc") ≡ notWritten 3 1 (hex "c9cacbcc"))
+unfolding computes
+writer-4 = (refl, refl, refl, refl, refl, refl, refl, refl, refl, refl, refl, refl, refl, refl, refl, refl, refl, refl, refl, refl)
+
+pub writer-5 :
     -- next arm with a upper
-    × (write (aChoice ∷ raw 5 0 0 0 0 0 noForm (form (pos 0) (pos 0 ∷ pos 0 ∷ pos 0 ∷ []) (pos 0 ∷ pos 0 ∷ pos 0 ∷ negsuc 0 ∷ [])) ∷ []) 2 (hex "c9cacbcc") ≡ notWritten 3 1 (hex "c9cacbcc"))
+    (write (aChoice ∷ raw 5 0 0 0 0 0 noForm (form (pos 0) (pos 0 ∷ pos 0 ∷ pos 0 ∷ []) (pos 0 ∷ pos 0 ∷ pos 0 ∷ negsuc 0 ∷ [])) 0 ∷ []) 2 (hex "c9cacbcc") ≡ notWritten 3 1 (hex "c9cacbcc"))
+    -- next arm with a skip
+    × (write (aChoice ∷ raw 5 0 0 0 0 0 noForm noForm 1 ∷ []) 2 (hex "c9cacbcc") ≡ notWritten 3 1 (hex "c9cacbcc"))
+    -- loop of kind 6 with a least
+    × (write (aChoice ∷ raw 6 1 0 3 0 1 noForm (form (pos 3) (pos 0 ∷ pos 0 ∷ pos 0 ∷ []) (pos 0 ∷ pos 0 ∷ pos 0 ∷ pos 0 ∷ [])) 1 ∷ []) 2 (hex "c9cacbcc") ≡ notWritten 3 1 (hex "c9cacbcc"))
+    -- loop of kind 6 with a most
+    × (write (aChoice ∷ raw 6 0 1 3 0 1 noForm (form (pos 3) (pos 0 ∷ pos 0 ∷ pos 0 ∷ []) (pos 0 ∷ pos 0 ∷ pos 0 ∷ pos 0 ∷ [])) 1 ∷ []) 2 (hex "c9cacbcc") ≡ notWritten 3 1 (hex "c9cacbcc"))
     -- end with a factor
-    × (write (aChoice ∷ raw 3 0 0 0 0 0 (form (pos 0) (pos 1 ∷ pos 0 ∷ pos 0 ∷ []) (pos 0 ∷ pos 0 ∷ pos 0 ∷ pos 0 ∷ [])) noForm ∷ []) 2 (hex "c9cacbcc") ≡ notWritten 3 1 (hex "c9cacbcc"))
+    × (write (aChoice ∷ raw 3 0 0 0 0 0 (form (pos 0) (pos 1 ∷ pos 0 ∷ pos 0 ∷ []) (pos 0 ∷ pos 0 ∷ pos 0 ∷ pos 0 ∷ [])) noForm 0 ∷ []) 2 (hex "c9cacbcc") ≡ notWritten 3 1 (hex "c9cacbcc"))
     -- end with a factor
-    × (write (aChoice ∷ raw 3 0 0 0 0 0 (form (pos 0) (pos 0 ∷ pos 1 ∷ pos 0 ∷ []) (pos 0 ∷ pos 0 ∷ pos 0 ∷ pos 0 ∷ [])) noForm ∷ []) 2 (hex "c9cacbcc") ≡ notWritten 3 1 (hex "c9cacbcc"))
+    × (write (aChoice ∷ raw 3 0 0 0 0 0 (form (pos 0) (pos 0 ∷ pos 1 ∷ pos 0 ∷ []) (pos 0 ∷ pos 0 ∷ pos 0 ∷ pos 0 ∷ [])) noForm 0 ∷ []) 2 (hex "c9cacbcc") ≡ notWritten 3 1 (hex "c9cacbcc"))
     -- end with a factor
-    × (write (aChoice ∷ raw 3 0 0 0 0 0 (form (pos 0) (pos 0 ∷ pos 0 ∷ negsuc 0 ∷ []) (pos 0 ∷ pos 0 ∷ pos 0 ∷ pos 0 ∷ [])) noForm ∷ []) 2 (hex "c9cacbcc") ≡ notWritten 3 1 (hex "c9cacbcc"))
+    × (write (aChoice ∷ raw 3 0 0 0 0 0 (form (pos 0) (pos 0 ∷ pos 0 ∷ negsuc 0 ∷ []) (pos 0 ∷ pos 0 ∷ pos 0 ∷ pos 0 ∷ [])) noForm 0 ∷ []) 2 (hex "c9cacbcc") ≡ notWritten 3 1 (hex "c9cacbcc"))
     -- end with a factor
-    × (write (aChoice ∷ raw 3 0 0 0 0 0 (form (pos 0) (pos 0 ∷ pos 0 ∷ pos 0 ∷ []) (pos 1 ∷ pos 0 ∷ pos 0 ∷ pos 0 ∷ [])) noForm ∷ []) 2 (hex "c9cacbcc") ≡ notWritten 3 1 (hex "c9cacbcc"))
+    × (write (aChoice ∷ raw 3 0 0 0 0 0 (form (pos 0) (pos 0 ∷ pos 0 ∷ pos 0 ∷ []) (pos 1 ∷ pos 0 ∷ pos 0 ∷ pos 0 ∷ [])) noForm 0 ∷ []) 2 (hex "c9cacbcc") ≡ notWritten 3 1 (hex "c9cacbcc"))
     -- end with a factor
-    × (write (aChoice ∷ raw 3 0 0 0 0 0 (form (pos 0) (pos 0 ∷ pos 0 ∷ pos 0 ∷ []) (pos 0 ∷ pos 1 ∷ pos 0 ∷ pos 0 ∷ [])) noForm ∷ []) 2 (hex "c9cacbcc") ≡ notWritten 3 1 (hex "c9cacbcc"))
+    × (write (aChoice ∷ raw 3 0 0 0 0 0 (form (pos 0) (pos 0 ∷ pos 0 ∷ pos 0 ∷ []) (pos 0 ∷ pos 1 ∷ pos 0 ∷ pos 0 ∷ [])) noForm 0 ∷ []) 2 (hex "c9cacbcc") ≡ notWritten 3 1 (hex "c9cacbcc"))
     -- end with a factor
-    × (write (aChoice ∷ raw 3 0 0 0 0 0 (form (pos 0) (pos 0 ∷ pos 0 ∷ pos 0 ∷ []) (pos 0 ∷ pos 0 ∷ pos 1 ∷ pos 0 ∷ [])) noForm ∷ []) 2 (hex "c9cacbcc") ≡ notWritten 3 1 (hex "c9cacbcc"))
+    × (write (aChoice ∷ raw 3 0 0 0 0 0 (form (pos 0) (pos 0 ∷ pos 0 ∷ pos 0 ∷ []) (pos 0 ∷ pos 0 ∷ pos 1 ∷ pos 0 ∷ [])) noForm 0 ∷ []) 2 (hex "c9cacbcc") ≡ notWritten 3 1 (hex "c9cacbcc"))
     -- end with nothing open
     × (write (anEnd ∷ []) 1 (hex "c9cacbcc") ≡ notWritten 5 0 (hex "c9cacbcc"))
     -- end with nothing open, later
@@ -200,32 +247,38 @@ pub writer-4 :
     × (write (aChoice ∷ aLoop ∷ aNextArm ∷ []) 3 (hex "c9cacbcc") ≡ notWritten 5 26 (hex "c9cacbcc"))
     -- fifth loop depth
     × (write (aLoop ∷ aLoop ∷ aLoop ∷ aLoop ∷ aLoop ∷ []) 5 (hex "c9cacbcc") ≡ notWritten 5 100 (hex "c9cacbcc"))
+    -- fifth loop depth, kinds 2 and 6 in turn
+    × (write (aLoop ∷ aSkipLoop ∷ aLoop ∷ aSkipLoop ∷ aSkipLoop ∷ []) 5 (hex "c9cacbcc") ≡ notWritten 5 104 (hex "c9cacbcc"))
+    -- next arm in a loop of kind 6
+    × (write (aChoice ∷ aSkipLoop ∷ aNextArm ∷ []) 3 (hex "c9cacbcc") ≡ notWritten 5 28 (hex "c9cacbcc"))
     -- 3 before 5 at the fifth depth
-    × (write (aLoop ∷ aLoop ∷ aLoop ∷ aLoop ∷ raw 2 0 0 0 0 0 noForm (form (pos 3) (pos 0 ∷ pos 0 ∷ pos 0 ∷ []) (pos 0 ∷ pos 0 ∷ pos 0 ∷ pos 0 ∷ [])) ∷ []) 5 (hex "c9cacbcc") ≡ notWritten 3 100 (hex "c9cacbcc"))
+    × (write (aLoop ∷ aLoop ∷ aLoop ∷ aLoop ∷ raw 2 0 0 0 0 0 noForm (form (pos 3) (pos 0 ∷ pos 0 ∷ pos 0 ∷ []) (pos 0 ∷ pos 0 ∷ pos 0 ∷ pos 0 ∷ [])) 0 ∷ []) 5 (hex "c9cacbcc") ≡ notWritten 3 100 (hex "c9cacbcc"))
     -- fifth depth, factors of all three depths
-    × (write (aLoop ∷ aLoop ∷ aLoop ∷ aLoop ∷ raw 2 0 0 0 0 1 (form (pos 0) (pos 1 ∷ pos 1 ∷ pos 1 ∷ []) (pos 0 ∷ pos 0 ∷ pos 0 ∷ pos 0 ∷ [])) noForm ∷ []) 5 (hex "c9cacbcc") ≡ notWritten 5 100 (hex "c9cacbcc"))
+    × (write (aLoop ∷ aLoop ∷ aLoop ∷ aLoop ∷ raw 2 0 0 0 0 1 (form (pos 0) (pos 1 ∷ pos 1 ∷ pos 1 ∷ []) (pos 0 ∷ pos 0 ∷ pos 0 ∷ pos 0 ∷ [])) noForm 0 ∷ []) 5 (hex "c9cacbcc") ≡ notWritten 5 100 (hex "c9cacbcc"))
     -- ninth open record, a choice
     × (write (aChoice ∷ aChoice ∷ aChoice ∷ aChoice ∷ aChoice ∷ aChoice ∷ aChoice ∷ aChoice ∷ aChoice ∷ []) 9 (hex "c9cacbcc") ≡ notWritten 5 8 (hex "c9cacbcc"))
-    -- ninth open record, a loop
-    × (write (aChoice ∷ aChoice ∷ aChoice ∷ aChoice ∷ aChoice ∷ aChoice ∷ aChoice ∷ aChoice ∷ aLoop ∷ []) 9 (hex "c9cacbcc") ≡ notWritten 5 8 (hex "c9cacbcc"))
 unfolding computes
-writer-4 = (refl, refl, refl, refl, refl, refl, refl, refl, refl, refl, refl, refl, refl, refl, refl, refl, refl, refl, refl, refl)
+writer-5 = (refl, refl, refl, refl, refl, refl, refl, refl, refl, refl, refl, refl, refl, refl, refl, refl, refl, refl, refl, refl)
 
-pub writer-5 :
+pub writer-6 :
+    -- ninth open record, a loop
+    (write (aChoice ∷ aChoice ∷ aChoice ∷ aChoice ∷ aChoice ∷ aChoice ∷ aChoice ∷ aChoice ∷ aLoop ∷ []) 9 (hex "c9cacbcc") ≡ notWritten 5 8 (hex "c9cacbcc"))
+    -- ninth open record, a loop of kind 6
+    × (write (aChoice ∷ aChoice ∷ aChoice ∷ aChoice ∷ aChoice ∷ aChoice ∷ aChoice ∷ aChoice ∷ aSkipLoop ∷ []) 9 (hex "c9cacbcc") ≡ notWritten 5 8 (hex "c9cacbcc"))
     -- eight open
-    (write (aChoice ∷ aChoice ∷ aChoice ∷ aChoice ∷ aChoice ∷ aChoice ∷ aChoice ∷ aChoice ∷ anEnd ∷ anEnd ∷ anEnd ∷ anEnd ∷ anEnd ∷ anEnd ∷ anEnd ∷ anEnd ∷ []) 16 (hex "c9cacbcccdcecfd0d1d2d3d4d5d6d7d8") ≡ written 16 (hex "04040404040404040303030303030303"))
+    × (write (aChoice ∷ aChoice ∷ aChoice ∷ aChoice ∷ aChoice ∷ aChoice ∷ aChoice ∷ aChoice ∷ anEnd ∷ anEnd ∷ anEnd ∷ anEnd ∷ anEnd ∷ anEnd ∷ anEnd ∷ anEnd ∷ []) 16 (hex "c9cacbcccdcecfd0d1d2d3d4d5d6d7d8") ≡ written 16 (hex "04040404040404040303030303030303"))
     -- open at the end
     × (write (aWork ∷ aChoice ∷ []) 2 (hex "c9cacbcc") ≡ notWritten 5 6 (hex "c9cacbcc"))
     -- a loop open at the end
     × (write (aLoop ∷ aWork ∷ []) 2 (hex "c9cacbcccdcecfd0d1d2d3d4d5d6d7d8d9dadbdcdddedfe0e1e2e3e4e5e6e7e8e9eaebecedeeeff0") ≡ notWritten 5 30 (hex "c9cacbcccdcecfd0d1d2d3d4d5d6d7d8d9dadbdcdddedfe0e1e2e3e4e5e6e7e8e9eaebecedeeeff0"))
     -- 3 before 5
-    × (write (raw 3 0 1 0 0 0 noForm noForm ∷ []) 1 (hex "c9cacbcc") ≡ notWritten 3 0 (hex "c9cacbcc"))
+    × (write (raw 3 0 1 0 0 0 noForm noForm 0 ∷ []) 1 (hex "c9cacbcc") ≡ notWritten 3 0 (hex "c9cacbcc"))
     -- 5 of the first before 2 of the second
-    × (write (anEnd ∷ raw 7 0 0 0 0 0 noForm noForm ∷ []) 2 (hex "c9cacbcc") ≡ notWritten 5 0 (hex "c9cacbcc"))
+    × (write (anEnd ∷ raw 9 0 0 0 0 0 noForm noForm 0 ∷ []) 2 (hex "c9cacbcc") ≡ notWritten 5 0 (hex "c9cacbcc"))
     -- open at the end before 9
     × (write (aChoice ∷ []) 1 [] ≡ notWritten 5 1 [])
 unfolding computes
-writer-5 = (refl, refl, refl, refl, refl, refl)
+writer-6 = (refl, refl, refl, refl, refl, refl, refl, refl)
 
 pub c-call-1 :
     -- area of 24 bytes
@@ -255,7 +308,7 @@ pub c-call-1 :
     -- 1
     × (cCall (hex "0200000000010000000000000000000009000000") zeroParameters 1 (hex "65666768696a6b6c6d6e6f707172737475767778797a7b7c7d7e") ≡ called 1 (hex "65666768696a6b6c6d6e6f707172737475767778797a7b7c7d7e"))
     -- 2
-    × (cCall (hex "010300050006") zeroParameters 1 (hex "65666768696a6b6c6d6e6f707172737475767778797a7b7c7d7e") ≡ called 2 (hex "65666768696a6b6c6d6e6f707172737475767778797a7b7c7d7e"))
+    × (cCall (hex "010300050007") zeroParameters 1 (hex "65666768696a6b6c6d6e6f707172737475767778797a7b7c7d7e") ≡ called 2 (hex "65666768696a6b6c6d6e6f707172737475767778797a7b7c7d7e"))
     -- 3
     × (cCall (hex "0100000010") zeroParameters 1 (hex "65666768696a6b6c6d6e6f707172737475767778797a7b7c") ≡ called 3 (hex "65666768696a6b6c6d6e6f707172737475767778797a7b7c"))
     -- 4
@@ -266,16 +319,18 @@ pub c-call-1 :
     × (cCall (hex "04") zeroParameters 1 (hex "65666768696a6b6c6d6e6f707172737475767778797a7b7c") ≡ called 5 (hex "65666768696a6b6c6d6e6f707172737475767778797a7b7c"))
     -- 6
     × (cCall (hex "0200000000010000000000000000000000080000000000000003") zeroParameters 1 (hex "65666768696a6b6c6d6e6f707172737475767778797a7b7c") ≡ called 6 (hex "65666768696a6b6c6d6e6f707172737475767778797a7b7c"))
-    -- 20 visits, budget 20
-    × (cCall (hex "020000000001000000000000000000000900000000000000000200000000020000000000000000000000000100000000000001010001000303") zeroParameters 20 (hex "65666768696a6b6c6d6e6f707172737475767778797a7b7c") ≡ called 0 (hex "1e000000000000001e000000000000001400000000000000"))
+    -- skip in place of start
+    × (cCall (hex "06050009000100000000000000000000ffff000000000000000200010300050003") zeroParameters 1 (hex "65666768696a6b6c6d6e6f707172737475767778797a7b7c") ≡ called 0 (hex "020000000000000002000000000000000000000000000000"))
 unfolding computes
 c-call-1 = (refl, refl, refl, refl, refl, refl, refl, refl, refl, refl, refl, refl, refl, refl, refl, refl, refl, refl, refl, refl)
 
 pub c-call-2 :
+    -- 20 visits, budget 20
+    (cCall (hex "020000000001000000000000000000000900000000000000000200000000020000000000000000000000000100000000000001010001000303") zeroParameters 20 (hex "65666768696a6b6c6d6e6f707172737475767778797a7b7c") ≡ called 0 (hex "1e000000000000001e000000000000001400000000000000"))
     -- 20 visits, budget 19
-    (cCall (hex "020000000001000000000000000000000900000000000000000200000000020000000000000000000000000100000000000001010001000303") zeroParameters 19 (hex "65666768696a6b6c6d6e6f707172737475767778797a7b7c") ≡ called 8 (hex "65666768696a6b6c6d6e6f707172737475767778797a7b7c"))
+    × (cCall (hex "020000000001000000000000000000000900000000000000000200000000020000000000000000000000000100000000000001010001000303") zeroParameters 19 (hex "65666768696a6b6c6d6e6f707172737475767778797a7b7c") ≡ called 8 (hex "65666768696a6b6c6d6e6f707172737475767778797a7b7c"))
 unfolding computes
-c-call-2 = refl
+c-call-2 = (refl, refl)
 
 pub record-reader-1 :
     -- choice
@@ -330,17 +385,30 @@ pub record-reader-2 :
     -- kind 0
     × (headAt (hex "00") 0 ≡ refused 2 0)
     × (bodyAt (hex "00") 0 ≡ [])
-    -- kind 6
-    × (headAt (hex "010300050006") 5 ≡ refused 2 5)
-    × (bodyAt (hex "010300050006") 5 ≡ [])
+    -- loop of kind 6, just whole
+    × (headAt (hex "06050009000100000000000000000000ffff000000000000000200") 0 ≡ found 6 1 26)
+    × (bodyAt (hex "06050009000100000000000000000000ffff000000000000000200") 0 ≡ (hex "050009000100000000000000000000ffff000000000000000200"))
+    -- loop of kind 6, one byte short
+    × (headAt (hex "06050009000100000000000000000000ffff0000000000000002") 0 ≡ refused 1 0)
+    × (bodyAt (hex "06050009000100000000000000000000ffff0000000000000002") 0 ≡ [])
+    -- after a loop of kind 6
+    × (headAt (hex "06050009000100000000000000000000ffff000000000000000200010300050003") 27 ≡ found 1 28 4)
+    × (bodyAt (hex "06050009000100000000000000000000ffff000000000000000200010300050003") 27 ≡ (hex "03000500"))
+    -- kind 7
+    × (headAt (hex "010300050007") 5 ≡ refused 2 5)
+    × (bodyAt (hex "010300050007") 5 ≡ [])
+unfolding computes
+record-reader-2 = (refl, refl, refl, refl, refl, refl, refl, refl, refl, refl, refl, refl, refl, refl, refl, refl, refl, refl, refl, refl)
+
+pub record-reader-3 :
     -- kind 255
-    × (headAt (hex "03ff03") 1 ≡ refused 2 1)
+    (headAt (hex "03ff03") 1 ≡ refused 2 1)
     × (bodyAt (hex "03ff03") 1 ≡ [])
     -- fields are not looked at
     × (headAt (hex "01ffff0000") 0 ≡ found 1 1 4)
     × (bodyAt (hex "01ffff0000") 0 ≡ (hex "ffff0000"))
 unfolding computes
-record-reader-2 = (refl, refl, refl, refl, refl, refl, refl, refl, refl, refl, refl, refl, refl, refl, refl, refl, refl, refl)
+record-reader-3 = (refl, refl, refl, refl)
 
 pub program-text-1 :
     -- the printed example
@@ -354,7 +422,11 @@ pub program-text-1 :
     -- 11 bytes
     × (programText (hex "0000000000000000640000") ≡ (text "refused 1 at 0\n"))
     -- 2 at a place of two digits
-    × (programText (hex "0000000000000000640000000103000500010300050006") ≡ (text "refused 2 at 10\n"))
+    × (programText (hex "0000000000000000640000000103000500010300050007") ≡ (text "refused 2 at 10\n"))
+    -- skip in place of start
+    × (programText (hex "00000000000000006400000006050009000100000000000000000000ffff000000000000000200010300050003") ≡ (text "best 2 worst 2 visits 0\nloop 0 closed ceiling 0\n"))
+    -- walked, since skip and start differ
+    × (programText (hex "0000000000000000640000000200000000010000000000000000000003000000000000000006050000000100000000000000000000ffff01000000000000010001030005000303") ≡ (text "best 34 worst 46 visits 7\nloop 0 walked ceiling 4\nloop 25 may fall below no trips\nloop 25 closed ceiling 3\n"))
     -- budget 0
     × (programText (hex "0000000000000000000000000200000000010000000000000000000009000000000000000002000000000100000000000000000000ffff0100000000000001010001000303") ≡ (text "refused 7 at 0\n"))
     -- budget's third byte
@@ -372,57 +444,57 @@ pub program-text-1 :
     -- a large figure
     × (programText (hex "0000000000000000640000000101002c0102ff0fff0f0100000000000000000000ff0700000000000000010000ff0f03") ≡ (text "best 8390656 worst 16777515 visits 1\nloop 5 closed ceiling 2048\n"))
 unfolding computes
-program-text-1 = (refl, refl, refl, refl, refl, refl, refl, refl, refl, refl, refl, refl, refl, refl)
+program-text-1 = (refl, refl, refl, refl, refl, refl, refl, refl, refl, refl, refl, refl, refl, refl, refl, refl)
 
 pub text-call-1 :
     -- buffer as long as the text
-    (textCall (hex "0000000000000000640000000200000000010000000000000000000009000000000000000002000000000100000000000000000000ffff0100000000000001010001000303") (hex "bbbbbbbbbbbbbbbbbbbbbbbbbbbbbbbbbbbbbbbbbbbbbbbbbbbbbbbbbbbbbbbbbbbbbbbbbbbbbbbbbbbbbbbbbbbbbbbbbbbbbbbbbbbbbbbbbbbbbbbbbbbbbbbbbbbbbbbbbbbbbbbbbbbbbbbb") (hex "65666768696a6b6c") ≡ textCalled 0 (hex "6265737420343520776f7273742034352076697369747320330a6c6f6f70203020636c6f736564206365696c696e672031300a6c6f6f7020323520636c6f736564206365696c696e6720390a") (hex "4c00000000000000"))
+    (textCall (hex "0000000000000000640000000200000000010000000000000000000009000000000000000002000000000100000000000000000000ffff0100000000000001010001000303") (hex "bbbbbbbbbbbbbbbbbbbbbbbbbbbbbbbbbbbbbbbbbbbbbbbbbbbbbbbbbbbbbbbbbbbbbbbbbbbbbbbbbbbbbbbbbbbbbbbbbbbbbbbbbbbbbbbbbbbbbbbbbbbbbbbbbbbbbbbbbbbbbbbbbbbbbbbb") (hex "65666768696a6b6c") ≡ lent 0 (hex "6265737420343520776f7273742034352076697369747320330a6c6f6f70203020636c6f736564206365696c696e672031300a6c6f6f7020323520636c6f736564206365696c696e6720390a") (hex "4c00000000000000"))
     -- buffer one byte short
-    × (textCall (hex "0000000000000000640000000200000000010000000000000000000009000000000000000002000000000100000000000000000000ffff0100000000000001010001000303") (hex "bbbbbbbbbbbbbbbbbbbbbbbbbbbbbbbbbbbbbbbbbbbbbbbbbbbbbbbbbbbbbbbbbbbbbbbbbbbbbbbbbbbbbbbbbbbbbbbbbbbbbbbbbbbbbbbbbbbbbbbbbbbbbbbbbbbbbbbbbbbbbbbbbbbbbb") (hex "65666768696a6b6c") ≡ textCalled 12 (hex "bbbbbbbbbbbbbbbbbbbbbbbbbbbbbbbbbbbbbbbbbbbbbbbbbbbbbbbbbbbbbbbbbbbbbbbbbbbbbbbbbbbbbbbbbbbbbbbbbbbbbbbbbbbbbbbbbbbbbbbbbbbbbbbbbbbbbbbbbbbbbbbbbbbbbb") (hex "65666768696a6b6c"))
+    × (textCall (hex "0000000000000000640000000200000000010000000000000000000009000000000000000002000000000100000000000000000000ffff0100000000000001010001000303") (hex "bbbbbbbbbbbbbbbbbbbbbbbbbbbbbbbbbbbbbbbbbbbbbbbbbbbbbbbbbbbbbbbbbbbbbbbbbbbbbbbbbbbbbbbbbbbbbbbbbbbbbbbbbbbbbbbbbbbbbbbbbbbbbbbbbbbbbbbbbbbbbbbbbbbbbb") (hex "65666768696a6b6c") ≡ lent 12 (hex "bbbbbbbbbbbbbbbbbbbbbbbbbbbbbbbbbbbbbbbbbbbbbbbbbbbbbbbbbbbbbbbbbbbbbbbbbbbbbbbbbbbbbbbbbbbbbbbbbbbbbbbbbbbbbbbbbbbbbbbbbbbbbbbbbbbbbbbbbbbbbbbbbbbbbb") (hex "65666768696a6b6c"))
     -- no buffer
-    × (textCall (hex "0000000000000000640000000200000000010000000000000000000009000000000000000002000000000100000000000000000000ffff0100000000000001010001000303") [] (hex "65666768696a6b6c") ≡ textCalled 12 [] (hex "65666768696a6b6c"))
+    × (textCall (hex "0000000000000000640000000200000000010000000000000000000009000000000000000002000000000100000000000000000000ffff0100000000000001010001000303") [] (hex "65666768696a6b6c") ≡ lent 12 [] (hex "65666768696a6b6c"))
     -- buffer five bytes longer: they stay
-    × (textCall (hex "0000000000000000640000000200000000010000000000000000000009000000000000000002000000000100000000000000000000ffff0100000000000001010001000303") (hex "bbbbbbbbbbbbbbbbbbbbbbbbbbbbbbbbbbbbbbbbbbbbbbbbbbbbbbbbbbbbbbbbbbbbbbbbbbbbbbbbbbbbbbbbbbbbbbbbbbbbbbbbbbbbbbbbbbbbbbbbbbbbbbbbbbbbbbbbbbbbbbbbbbbbbbbbbbbbbbbbbb") (hex "65666768696a6b6c") ≡ textCalled 0 (hex "6265737420343520776f7273742034352076697369747320330a6c6f6f70203020636c6f736564206365696c696e672031300a6c6f6f7020323520636c6f736564206365696c696e6720390abbbbbbbbbb") (hex "4c00000000000000"))
+    × (textCall (hex "0000000000000000640000000200000000010000000000000000000009000000000000000002000000000100000000000000000000ffff0100000000000001010001000303") (hex "bbbbbbbbbbbbbbbbbbbbbbbbbbbbbbbbbbbbbbbbbbbbbbbbbbbbbbbbbbbbbbbbbbbbbbbbbbbbbbbbbbbbbbbbbbbbbbbbbbbbbbbbbbbbbbbbbbbbbbbbbbbbbbbbbbbbbbbbbbbbbbbbbbbbbbbbbbbbbbbbbb") (hex "65666768696a6b6c") ≡ lent 0 (hex "6265737420343520776f7273742034352076697369747320330a6c6f6f70203020636c6f736564206365696c696e672031300a6c6f6f7020323520636c6f736564206365696c696e6720390abbbbbbbbbb") (hex "4c00000000000000"))
     -- area of 11 bytes: the last three stay
-    × (textCall (hex "0000000000000000640000000200000000010000000000000000000009000000000000000002000000000100000000000000000000ffff0100000000000001010001000303") (hex "bbbbbbbbbbbbbbbbbbbbbbbbbbbbbbbbbbbbbbbbbbbbbbbbbbbbbbbbbbbbbbbbbbbbbbbbbbbbbbbbbbbbbbbbbbbbbbbbbbbbbbbbbbbbbbbbbbbbbbbbbbbbbbbbbbbbbbbbbbbbbbbbbbbbbbbb") (hex "65666768696a6b6c6d6e6f") ≡ textCalled 0 (hex "6265737420343520776f7273742034352076697369747320330a6c6f6f70203020636c6f736564206365696c696e672031300a6c6f6f7020323520636c6f736564206365696c696e6720390a") (hex "4c000000000000006d6e6f"))
+    × (textCall (hex "0000000000000000640000000200000000010000000000000000000009000000000000000002000000000100000000000000000000ffff0100000000000001010001000303") (hex "bbbbbbbbbbbbbbbbbbbbbbbbbbbbbbbbbbbbbbbbbbbbbbbbbbbbbbbbbbbbbbbbbbbbbbbbbbbbbbbbbbbbbbbbbbbbbbbbbbbbbbbbbbbbbbbbbbbbbbbbbbbbbbbbbbbbbbbbbbbbbbbbbbbbbbbb") (hex "65666768696a6b6c6d6e6f") ≡ lent 0 (hex "6265737420343520776f7273742034352076697369747320330a6c6f6f70203020636c6f736564206365696c696e672031300a6c6f6f7020323520636c6f736564206365696c696e6720390a") (hex "4c000000000000006d6e6f"))
     -- area of 7 bytes
-    × (textCall (hex "0000000000000000640000000200000000010000000000000000000009000000000000000002000000000100000000000000000000ffff0100000000000001010001000303") (hex "bbbbbbbbbbbbbbbbbbbbbbbbbbbbbbbbbbbbbbbbbbbbbbbbbbbbbbbbbbbbbbbbbbbbbbbbbbbbbbbbbbbbbbbbbbbbbbbbbbbbbbbbbbbbbbbbbbbbbbbbbbbbbbbbbbbbbbbbbbbbbbbbbbbbbbbb") (hex "65666768696a6b") ≡ textCalled 9 (hex "bbbbbbbbbbbbbbbbbbbbbbbbbbbbbbbbbbbbbbbbbbbbbbbbbbbbbbbbbbbbbbbbbbbbbbbbbbbbbbbbbbbbbbbbbbbbbbbbbbbbbbbbbbbbbbbbbbbbbbbbbbbbbbbbbbbbbbbbbbbbbbbbbbbbbbbb") (hex "65666768696a6b"))
+    × (textCall (hex "0000000000000000640000000200000000010000000000000000000009000000000000000002000000000100000000000000000000ffff0100000000000001010001000303") (hex "bbbbbbbbbbbbbbbbbbbbbbbbbbbbbbbbbbbbbbbbbbbbbbbbbbbbbbbbbbbbbbbbbbbbbbbbbbbbbbbbbbbbbbbbbbbbbbbbbbbbbbbbbbbbbbbbbbbbbbbbbbbbbbbbbbbbbbbbbbbbbbbbbbbbbbbb") (hex "65666768696a6b") ≡ lent 9 (hex "bbbbbbbbbbbbbbbbbbbbbbbbbbbbbbbbbbbbbbbbbbbbbbbbbbbbbbbbbbbbbbbbbbbbbbbbbbbbbbbbbbbbbbbbbbbbbbbbbbbbbbbbbbbbbbbbbbbbbbbbbbbbbbbbbbbbbbbbbbbbbbbbbbbbbbbb") (hex "65666768696a6b"))
     -- no area
-    × (textCall (hex "0000000000000000640000000200000000010000000000000000000009000000000000000002000000000100000000000000000000ffff0100000000000001010001000303") (hex "bbbbbbbbbbbbbbbbbbbbbbbbbbbbbbbbbbbbbbbbbbbbbbbbbbbbbbbbbbbbbbbbbbbbbbbbbbbbbbbbbbbbbbbbbbbbbbbbbbbbbbbbbbbbbbbbbbbbbbbbbbbbbbbbbbbbbbbbbbbbbbbbbbbbbbbb") [] ≡ textCalled 9 (hex "bbbbbbbbbbbbbbbbbbbbbbbbbbbbbbbbbbbbbbbbbbbbbbbbbbbbbbbbbbbbbbbbbbbbbbbbbbbbbbbbbbbbbbbbbbbbbbbbbbbbbbbbbbbbbbbbbbbbbbbbbbbbbbbbbbbbbbbbbbbbbbbbbbbbbbbb") [])
+    × (textCall (hex "0000000000000000640000000200000000010000000000000000000009000000000000000002000000000100000000000000000000ffff0100000000000001010001000303") (hex "bbbbbbbbbbbbbbbbbbbbbbbbbbbbbbbbbbbbbbbbbbbbbbbbbbbbbbbbbbbbbbbbbbbbbbbbbbbbbbbbbbbbbbbbbbbbbbbbbbbbbbbbbbbbbbbbbbbbbbbbbbbbbbbbbbbbbbbbbbbbbbbbbbbbbbbb") [] ≡ lent 9 (hex "bbbbbbbbbbbbbbbbbbbbbbbbbbbbbbbbbbbbbbbbbbbbbbbbbbbbbbbbbbbbbbbbbbbbbbbbbbbbbbbbbbbbbbbbbbbbbbbbbbbbbbbbbbbbbbbbbbbbbbbbbbbbbbbbbbbbbbbbbbbbbbbbbbbbbbbb") [])
     -- 9 before 12
-    × (textCall (hex "0000000000000000640000000200000000010000000000000000000009000000000000000002000000000100000000000000000000ffff0100000000000001010001000303") (hex "bbbbbbbbbbbbbbbbbbbbbbbbbbbbbbbbbbbbbbbbbbbbbbbbbbbbbbbbbbbbbbbbbbbbbbbbbbbbbbbbbbbbbbbbbbbbbbbbbbbbbbbbbbbbbbbbbbbbbbbbbbbbbbbbbbbbbbbbbbbbbbbbbbbbbb") (hex "65666768696a6b") ≡ textCalled 9 (hex "bbbbbbbbbbbbbbbbbbbbbbbbbbbbbbbbbbbbbbbbbbbbbbbbbbbbbbbbbbbbbbbbbbbbbbbbbbbbbbbbbbbbbbbbbbbbbbbbbbbbbbbbbbbbbbbbbbbbbbbbbbbbbbbbbbbbbbbbbbbbbbbbbbbbbb") (hex "65666768696a6b"))
+    × (textCall (hex "0000000000000000640000000200000000010000000000000000000009000000000000000002000000000100000000000000000000ffff0100000000000001010001000303") (hex "bbbbbbbbbbbbbbbbbbbbbbbbbbbbbbbbbbbbbbbbbbbbbbbbbbbbbbbbbbbbbbbbbbbbbbbbbbbbbbbbbbbbbbbbbbbbbbbbbbbbbbbbbbbbbbbbbbbbbbbbbbbbbbbbbbbbbbbbbbbbbbbbbbbbbb") (hex "65666768696a6b") ≡ lent 9 (hex "bbbbbbbbbbbbbbbbbbbbbbbbbbbbbbbbbbbbbbbbbbbbbbbbbbbbbbbbbbbbbbbbbbbbbbbbbbbbbbbbbbbbbbbbbbbbbbbbbbbbbbbbbbbbbbbbbbbbbbbbbbbbbbbbbbbbbbbbbbbbbbbbbbbbbb") (hex "65666768696a6b"))
     -- neither buffer nor area: 9
-    × (textCall (hex "0000000000000000640000000200000000010000000000000000000009000000000000000002000000000100000000000000000000ffff0100000000000001010001000303") [] [] ≡ textCalled 9 [] [])
+    × (textCall (hex "0000000000000000640000000200000000010000000000000000000009000000000000000002000000000100000000000000000000ffff0100000000000001010001000303") [] [] ≡ lent 9 [] [])
     -- 12 with an area of 11 bytes: all stay
-    × (textCall (hex "0000000000000000640000000200000000010000000000000000000009000000000000000002000000000100000000000000000000ffff0100000000000001010001000303") [] (hex "65666768696a6b6c6d6e6f") ≡ textCalled 12 [] (hex "65666768696a6b6c6d6e6f"))
+    × (textCall (hex "0000000000000000640000000200000000010000000000000000000009000000000000000002000000000100000000000000000000ffff0100000000000001010001000303") [] (hex "65666768696a6b6c6d6e6f") ≡ lent 12 [] (hex "65666768696a6b6c6d6e6f"))
     -- a refusal is text
-    × (textCall (hex "000000000000000064000000010300050006") (hex "bbbbbbbbbbbbbbbbbbbbbbbbbbbbbbbbbb") (hex "65666768696a6b6c") ≡ textCalled 0 (hex "72656675736564203220617420350abbbb") (hex "0f00000000000000"))
+    × (textCall (hex "000000000000000064000000010300050007") (hex "bbbbbbbbbbbbbbbbbbbbbbbbbbbbbbbbbb") (hex "65666768696a6b6c") ≡ lent 0 (hex "72656675736564203220617420350abbbb") (hex "0f00000000000000"))
     -- a refusal is text, buffer one byte short
-    × (textCall (hex "000000000000000064000000010300050006") (hex "bbbbbbbbbbbbbbbbbbbbbbbbbbbb") (hex "65666768696a6b6c") ≡ textCalled 12 (hex "bbbbbbbbbbbbbbbbbbbbbbbbbbbb") (hex "65666768696a6b6c"))
+    × (textCall (hex "000000000000000064000000010300050007") (hex "bbbbbbbbbbbbbbbbbbbbbbbbbbbb") (hex "65666768696a6b6c") ≡ lent 12 (hex "bbbbbbbbbbbbbbbbbbbbbbbbbbbb") (hex "65666768696a6b6c"))
     -- budget 0 is text
-    × (textCall (hex "0000000000000000000000000200000000010000000000000000000009000000000000000002000000000100000000000000000000ffff0100000000000001010001000303") (hex "bbbbbbbbbbbbbbbbbbbbbbbbbbbbbb") (hex "65666768696a6b6c") ≡ textCalled 0 (hex "72656675736564203720617420300a") (hex "0f00000000000000"))
+    × (textCall (hex "0000000000000000000000000200000000010000000000000000000009000000000000000002000000000100000000000000000000ffff0100000000000001010001000303") (hex "bbbbbbbbbbbbbbbbbbbbbbbbbbbbbb") (hex "65666768696a6b6c") ≡ lent 0 (hex "72656675736564203720617420300a") (hex "0f00000000000000"))
     -- empty sheet
-    × (textCall (hex "000000000000000064000000") (hex "bbbbbbbbbbbbbbbbbbbbbbbbbbbbbbbbbbbbbbbbbbbbbbbb") (hex "65666768696a6b6c") ≡ textCalled 0 (hex "62657374203020776f72737420302076697369747320300a") (hex "1800000000000000"))
+    × (textCall (hex "000000000000000064000000") (hex "bbbbbbbbbbbbbbbbbbbbbbbbbbbbbbbbbbbbbbbbbbbbbbbb") (hex "65666768696a6b6c") ≡ lent 0 (hex "62657374203020776f72737420302076697369747320300a") (hex "1800000000000000"))
     -- 11 bytes of input
-    × (textCall (hex "0000000000000000640000") (hex "bbbbbbbbbbbbbbbbbbbbbbbbbbbbbb") (hex "65666768696a6b6c") ≡ textCalled 0 (hex "72656675736564203120617420300a") (hex "0f00000000000000"))
+    × (textCall (hex "0000000000000000640000") (hex "bbbbbbbbbbbbbbbbbbbbbbbbbbbbbb") (hex "65666768696a6b6c") ≡ lent 0 (hex "72656675736564203120617420300a") (hex "0f00000000000000"))
     -- 11 bytes of input, buffer one byte short
-    × (textCall (hex "0000000000000000640000") (hex "bbbbbbbbbbbbbbbbbbbbbbbbbbbb") (hex "65666768696a6b6c") ≡ textCalled 12 (hex "bbbbbbbbbbbbbbbbbbbbbbbbbbbb") (hex "65666768696a6b6c"))
+    × (textCall (hex "0000000000000000640000") (hex "bbbbbbbbbbbbbbbbbbbbbbbbbbbb") (hex "65666768696a6b6c") ≡ lent 12 (hex "bbbbbbbbbbbbbbbbbbbbbbbbbbbb") (hex "65666768696a6b6c"))
     -- no input
-    × (textCall [] (hex "bbbbbbbbbbbbbbbbbbbbbbbbbbbbbbbbbbbb") (hex "65666768696a6b6c") ≡ textCalled 0 (hex "72656675736564203120617420300abbbbbb") (hex "0f00000000000000"))
+    × (textCall [] (hex "bbbbbbbbbbbbbbbbbbbbbbbbbbbbbbbbbbbb") (hex "65666768696a6b6c") ≡ lent 0 (hex "72656675736564203120617420300abbbbbb") (hex "0f00000000000000"))
     -- no input and no buffer: 12
-    × (textCall [] [] (hex "65666768696a6b6c") ≡ textCalled 12 [] (hex "65666768696a6b6c"))
+    × (textCall [] [] (hex "65666768696a6b6c") ≡ lent 12 [] (hex "65666768696a6b6c"))
     -- nothing at all: 9
-    × (textCall [] [] [] ≡ textCalled 9 [] [])
+    × (textCall [] [] [] ≡ lent 9 [] [])
     -- a reason's line
-    × (textCall (hex "000000000000000064000000020000000001000000000000000000000900000000000000000200000000020000000000000000000000000100000000000001010001000303") (hex "bbbbbbbbbbbbbbbbbbbbbbbbbbbbbbbbbbbbbbbbbbbbbbbbbbbbbbbbbbbbbbbbbbbbbbbbbbbbbbbbbbbbbbbbbbbbbbbbbbbbbbbbbbbbbbbbbbbbbbbbbbbbbbbbbbbbbbbbbbbbbbbbbbbbbbbbbbbbbbbbbbbbbbbbbbbbbbbbbbbbbbbbbbbbbbbbbbbbbbbbbbbbbbbbbb") (hex "65666768696a6b6c") ≡ textCalled 0 (hex "6265737420333020776f727374203330207669736974732032300a6c6f6f7020302077616c6b6564206365696c696e672031300a6c6f6f7020323520697320756e6576656e20696e206c6f6f7020300a6c6f6f7020323520636c6f736564206365696c696e6720350a") (hex "6900000000000000"))
+    × (textCall (hex "000000000000000064000000020000000001000000000000000000000900000000000000000200000000020000000000000000000000000100000000000001010001000303") (hex "bbbbbbbbbbbbbbbbbbbbbbbbbbbbbbbbbbbbbbbbbbbbbbbbbbbbbbbbbbbbbbbbbbbbbbbbbbbbbbbbbbbbbbbbbbbbbbbbbbbbbbbbbbbbbbbbbbbbbbbbbbbbbbbbbbbbbbbbbbbbbbbbbbbbbbbbbbbbbbbbbbbbbbbbbbbbbbbbbbbbbbbbbbbbbbbbbbbbbbbbbbbbbbbbbb") (hex "65666768696a6b6c") ≡ lent 0 (hex "6265737420333020776f727374203330207669736974732032300a6c6f6f7020302077616c6b6564206365696c696e672031300a6c6f6f7020323520697320756e6576656e20696e206c6f6f7020300a6c6f6f7020323520636c6f736564206365696c696e6720350a") (hex "6900000000000000"))
 unfolding computes
 text-call-1 = (refl, refl, refl, refl, refl, refl, refl, refl, refl, refl, refl, refl, refl, refl, refl, refl, refl, refl, refl, refl)
 
 pub text-call-2 :
     -- a reason's line, buffer one byte short
-    (textCall (hex "000000000000000064000000020000000001000000000000000000000900000000000000000200000000020000000000000000000000000100000000000001010001000303") (hex "bbbbbbbbbbbbbbbbbbbbbbbbbbbbbbbbbbbbbbbbbbbbbbbbbbbbbbbbbbbbbbbbbbbbbbbbbbbbbbbbbbbbbbbbbbbbbbbbbbbbbbbbbbbbbbbbbbbbbbbbbbbbbbbbbbbbbbbbbbbbbbbbbbbbbbbbbbbbbbbbbbbbbbbbbbbbbbbbbbbbbbbbbbbbbbbbbbbbbbbbbbbbbbbb") (hex "65666768696a6b6c") ≡ textCalled 12 (hex "bbbbbbbbbbbbbbbbbbbbbbbbbbbbbbbbbbbbbbbbbbbbbbbbbbbbbbbbbbbbbbbbbbbbbbbbbbbbbbbbbbbbbbbbbbbbbbbbbbbbbbbbbbbbbbbbbbbbbbbbbbbbbbbbbbbbbbbbbbbbbbbbbbbbbbbbbbbbbbbbbbbbbbbbbbbbbbbbbbbbbbbbbbbbbbbbbbbbbbbbbbbbbbbb") (hex "65666768696a6b6c"))
+    (textCall (hex "000000000000000064000000020000000001000000000000000000000900000000000000000200000000020000000000000000000000000100000000000001010001000303") (hex "bbbbbbbbbbbbbbbbbbbbbbbbbbbbbbbbbbbbbbbbbbbbbbbbbbbbbbbbbbbbbbbbbbbbbbbbbbbbbbbbbbbbbbbbbbbbbbbbbbbbbbbbbbbbbbbbbbbbbbbbbbbbbbbbbbbbbbbbbbbbbbbbbbbbbbbbbbbbbbbbbbbbbbbbbbbbbbbbbbbbbbbbbbbbbbbbbbbbbbbbbbbbbbbb") (hex "65666768696a6b6c") ≡ lent 12 (hex "bbbbbbbbbbbbbbbbbbbbbbbbbbbbbbbbbbbbbbbbbbbbbbbbbbbbbbbbbbbbbbbbbbbbbbbbbbbbbbbbbbbbbbbbbbbbbbbbbbbbbbbbbbbbbbbbbbbbbbbbbbbbbbbbbbbbbbbbbbbbbbbbbbbbbbbbbbbbbbbbbbbbbbbbbbbbbbbbbbbbbbbbbbbbbbbbbbbbbbbbbbbbbbbb") (hex "65666768696a6b6c"))
     -- a reason's line, buffer one byte longer: it stays
-    × (textCall (hex "000000000000000064000000020000000001000000000000000000000900000000000000000200000000020000000000000000000000000100000000000001010001000303") (hex "bbbbbbbbbbbbbbbbbbbbbbbbbbbbbbbbbbbbbbbbbbbbbbbbbbbbbbbbbbbbbbbbbbbbbbbbbbbbbbbbbbbbbbbbbbbbbbbbbbbbbbbbbbbbbbbbbbbbbbbbbbbbbbbbbbbbbbbbbbbbbbbbbbbbbbbbbbbbbbbbbbbbbbbbbbbbbbbbbbbbbbbbbbbbbbbbbbbbbbbbbbbbbbbbbbbb") (hex "65666768696a6b6c") ≡ textCalled 0 (hex "6265737420333020776f727374203330207669736974732032300a6c6f6f7020302077616c6b6564206365696c696e672031300a6c6f6f7020323520697320756e6576656e20696e206c6f6f7020300a6c6f6f7020323520636c6f736564206365696c696e6720350abb") (hex "6900000000000000"))
+    × (textCall (hex "000000000000000064000000020000000001000000000000000000000900000000000000000200000000020000000000000000000000000100000000000001010001000303") (hex "bbbbbbbbbbbbbbbbbbbbbbbbbbbbbbbbbbbbbbbbbbbbbbbbbbbbbbbbbbbbbbbbbbbbbbbbbbbbbbbbbbbbbbbbbbbbbbbbbbbbbbbbbbbbbbbbbbbbbbbbbbbbbbbbbbbbbbbbbbbbbbbbbbbbbbbbbbbbbbbbbbbbbbbbbbbbbbbbbbbbbbbbbbbbbbbbbbbbbbbbbbbbbbbbbbbb") (hex "65666768696a6b6c") ≡ lent 0 (hex "6265737420333020776f727374203330207669736974732032300a6c6f6f7020302077616c6b6564206365696c696e672031300a6c6f6f7020323520697320756e6576656e20696e206c6f6f7020300a6c6f6f7020323520636c6f736564206365696c696e6720350abb") (hex "6900000000000000"))
 unfolding computes
 text-call-2 = (refl, refl)
 
@@ -480,12 +552,208 @@ pub reading-back-2 :
 unfolding computes
 reading-back-2 = (refl, refl, refl)
 
+pub converter-1 :
+    -- kind 2 becomes kind 6, its skip its start
+    (withSkips (hex "0203000000010000000000000000000003000000000000000003") (hex "c9cacbcccdcecfd0d1d2d3d4d5d6d7d8d9dadbdcdddedfe0e1e2e3e4") ≡ written 28 (hex "06030000000100000000000000000000030000000000000000030003"))
+    -- to kind 6, buffer one byte short
+    × (withSkips (hex "0203000000010000000000000000000003000000000000000003") (hex "c9cacbcccdcecfd0d1d2d3d4d5d6d7d8d9dadbdcdddedfe0e1e2e3") ≡ notWritten 9 0 (hex "c9cacbcccdcecfd0d1d2d3d4d5d6d7d8d9dadbdcdddedfe0e1e2e3"))
+    -- to kind 6, buffer three bytes longer: they stay
+    × (withSkips (hex "0203000000010000000000000000000003000000000000000003") (hex "c9cacbcccdcecfd0d1d2d3d4d5d6d7d8d9dadbdcdddedfe0e1e2e3e4e5e6e7") ≡ written 28 (hex "06030000000100000000000000000000030000000000000000030003e5e6e7"))
+    -- to kind 6, a buffer that holds the old sheet
+    × (withSkips (hex "0203000000010000000000000000000003000000000000000003") (hex "c9cacbcccdcecfd0d1d2d3d4d5d6d7d8d9dadbdcdddedfe0e1e2") ≡ notWritten 9 0 (hex "c9cacbcccdcecfd0d1d2d3d4d5d6d7d8d9dadbdcdddedfe0e1e2"))
+    -- kind 6 stays, a skip below start
+    × (withSkips (hex "06030000000100000000000000000000030000000000000000010003") (hex "c9cacbcccdcecfd0d1d2d3d4d5d6d7d8d9dadbdcdddedfe0e1e2e3e4") ≡ written 28 (hex "06030000000100000000000000000000030000000000000000010003"))
+    -- kind 6 stays, a skip above start
+    × (withSkips (hex "06030000000100000000000000000000030000000000000000040003") (hex "c9cacbcccdcecfd0d1d2d3d4d5d6d7d8d9dadbdcdddedfe0e1e2e3e4") ≡ written 28 (hex "06030000000100000000000000000000030000000000000000040003"))
+    -- to kind 6, all kinds
+    × (withSkips (hex "0402020107000300feff00000000000000ff0f00000000000000060000000001000000ff000000000000050001000000000000040301010001000303050603000000010000000000000000000003000000000000000003000303") (hex "c9cacbcccdcecfd0d1d2d3d4d5d6d7d8d9dadbdcdddedfe0e1e2e3e4e5e6e7e8e9eaebecedeeeff0f1f2f3f4f5f6f7f8f9fac9cacbcccdcecfd0d1d2d3d4d5d6d7d8d9dadbdcdddedfe0e1e2e3e4e5e6e7e8e9eaebecedeeeff0f1f2") ≡ written 92 (hex "0406020107000300feff00000000000000ff0f000000000000000201060000000001000000ff000000000000050001000000000000040301010001000303050603000000010000000000000000000003000000000000000003000303"))
+    -- to kind 6, no loop
+    × (withSkips (hex "040101002c010503") (hex "c9cacbcccdcecfd0") ≡ written 8 (hex "040101002c010503"))
+    -- to kind 6, no loop, buffer one byte short
+    × (withSkips (hex "040101002c010503") (hex "c9cacbcccdcecf") ≡ notWritten 9 0 (hex "c9cacbcccdcecf"))
+    -- to kind 6, empty sheet
+    × (withSkips [] [] ≡ written 0 [])
+    -- to kind 6, empty sheet, the buffer stays
+    × (withSkips [] (hex "c9ca") ≡ written 0 (hex "c9ca"))
+    -- to kind 6, 1 before 9
+    × (withSkips (hex "0603000000010000000000000000000003000000000000000003") [] ≡ notWritten 1 0 [])
+    -- to kind 6, 2 before 9
+    × (withSkips (hex "0407") [] ≡ notWritten 2 1 [])
+    -- to kind 6, 3 before 9
+    × (withSkips (hex "06000000000100000000000000000000030000000000000000001003") [] ≡ notWritten 3 0 [])
+    -- to kind 6, 4 before 9
+    × (withSkips (hex "0403040304030403040304030403040304030403040304030403040304030403040304030403040304030403040304030403040304030403040304030403040303") [] ≡ notWritten 4 64 [])
+    -- to kind 6, 5 before 9
+    × (withSkips (hex "020300000001000000000000000000000300000000000000000303") [] ≡ notWritten 5 26 [])
+    -- to kind 6, open at the end before 9
+    × (withSkips (hex "02030000000100000000000000000000030000000000000000") [] ≡ notWritten 5 25 [])
+    -- to kind 6, a refusal leaves buffer and area
+    × (withSkips (hex "06000000000100000000000000000000030000000000000000001003") (hex "c9cacbcccdcecfd0d1d2d3d4d5d6d7d8d9dadbdcdddedfe0e1e2e3e4e5e6") ≡ notWritten 3 0 (hex "c9cacbcccdcecfd0d1d2d3d4d5d6d7d8d9dadbdcdddedfe0e1e2e3e4e5e6"))
+    -- kind 6 becomes kind 2
+    × (withoutSkips (hex "06030000000100000000000000000000030000000000000000030003") (hex "c9cacbcccdcecfd0d1d2d3d4d5d6d7d8d9dadbdcdddedfe0e1e2") ≡ written 26 (hex "0203000000010000000000000000000003000000000000000003"))
+    -- to kind 2, buffer one byte short
+    × (withoutSkips (hex "06030000000100000000000000000000030000000000000000030003") (hex "c9cacbcccdcecfd0d1d2d3d4d5d6d7d8d9dadbdcdddedfe0e1") ≡ notWritten 9 0 (hex "c9cacbcccdcecfd0d1d2d3d4d5d6d7d8d9dadbdcdddedfe0e1"))
+unfolding computes
+converter-1 = (refl, refl, refl, refl, refl, refl, refl, refl, refl, refl, refl, refl, refl, refl, refl, refl, refl, refl, refl, refl)
+
+pub converter-2 :
+    -- to kind 2, buffer three bytes longer: they stay
+    (withoutSkips (hex "06030000000100000000000000000000030000000000000000030003") (hex "c9cacbcccdcecfd0d1d2d3d4d5d6d7d8d9dadbdcdddedfe0e1e2e3e4e5") ≡ written 26 (hex "0203000000010000000000000000000003000000000000000003e3e4e5"))
+    -- kind 2 stays
+    × (withoutSkips (hex "0203000000010000000000000000000003000000000000000003") (hex "c9cacbcccdcecfd0d1d2d3d4d5d6d7d8d9dadbdcdddedfe0e1e2") ≡ written 26 (hex "0203000000010000000000000000000003000000000000000003"))
+    -- to kind 2, all kinds
+    × (withoutSkips (hex "0406020107000300feff00000000000000ff0f000000000000000201060000000001000000ff00000000000005000100000000000000000101000100030305020300000001000000000000000000000300000000000000000303") (hex "c9cacbcccdcecfd0d1d2d3d4d5d6d7d8d9dadbdcdddedfe0e1e2e3e4e5e6e7e8e9eaebecedeeeff0f1f2f3f4f5f6f7f8f9fac9cacbcccdcecfd0d1d2d3d4d5d6d7d8d9dadbdcdddedfe0e1e2e3e4e5e6e7e8e9eaebec") ≡ written 86 (hex "0402020107000300feff00000000000000ff0f00000000000000020000000001000000ff0000000000000500010000000000000101000100030305020300000001000000000000000000000300000000000000000303"))
+    -- to kind 2, no loop
+    × (withoutSkips (hex "040101002c010503") (hex "c9cacbcccdcecfd0") ≡ written 8 (hex "040101002c010503"))
+    -- to kind 2, empty sheet
+    × (withoutSkips [] [] ≡ written 0 [])
+    -- to kind 2, empty sheet, the buffer stays
+    × (withoutSkips [] (hex "c9ca") ≡ written 0 (hex "c9ca"))
+    -- 10: a skip below start
+    × (withoutSkips (hex "06030000000100000000000000000000030000000000000000010003") (hex "c9cacbcccdcecfd0d1d2d3d4d5d6d7d8d9dadbdcdddedfe0e1e2e3e4e5e6e7e8e9eaebecedeeeff0") ≡ notWritten 10 0 (hex "c9cacbcccdcecfd0d1d2d3d4d5d6d7d8d9dadbdcdddedfe0e1e2e3e4e5e6e7e8e9eaebecedeeeff0"))
+    -- 10: a skip above start
+    × (withoutSkips (hex "06030000000100000000000000000000030000000000000000040003") (hex "c9cacbcccdcecfd0d1d2d3d4d5d6d7d8d9dadbdcdddedfe0e1e2e3e4e5e6e7e8e9eaebecedeeeff0") ≡ notWritten 10 0 (hex "c9cacbcccdcecfd0d1d2d3d4d5d6d7d8d9dadbdcdddedfe0e1e2e3e4e5e6e7e8e9eaebecedeeeff0"))
+    -- 10: a skip that differs in its second byte
+    × (withoutSkips (hex "06030000000100000000000000000000030000000000000000030103") (hex "c9cacbcccdcecfd0d1d2d3d4d5d6d7d8d9dadbdcdddedfe0e1e2e3e4e5e6e7e8e9eaebecedeeeff0") ≡ notWritten 10 0 (hex "c9cacbcccdcecfd0d1d2d3d4d5d6d7d8d9dadbdcdddedfe0e1e2e3e4e5e6e7e8e9eaebecedeeeff0"))
+    -- 10 before 9
+    × (withoutSkips (hex "06030000000100000000000000000000030000000000000000010003") [] ≡ notWritten 10 0 [])
+    -- 10 at the first of two, by the old sheet
+    × (withoutSkips (hex "060300000001000000000000000000000300000000000000000300030603000000010000000000000000000003000000000000000001000306030000000100000000000000000000030000000000000000040003") (hex "c9cacbcccdcecfd0d1d2d3d4d5d6d7d8d9dadbdcdddedfe0e1e2e3e4e5e6e7e8e9eaebecedeeeff0f1f2f3f4f5f6f7f8f9fac9cacbcccdcecfd0d1d2d3d4d5d6d7d8d9dadbdcdddedfe0e1e2e3e4e5e6e7e8e9eaebecedeeeff0") ≡ notWritten 10 28 (hex "c9cacbcccdcecfd0d1d2d3d4d5d6d7d8d9dadbdcdddedfe0e1e2e3e4e5e6e7e8e9eaebecedeeeff0f1f2f3f4f5f6f7f8f9fac9cacbcccdcecfd0d1d2d3d4d5d6d7d8d9dadbdcdddedfe0e1e2e3e4e5e6e7e8e9eaebecedeeeff0"))
+    -- 10 after a loop of kind 2
+    × (withoutSkips (hex "0101000100020300000001000000000000000000000300000000000000000306030000000100000000000000000000030000000000000000040003") (hex "c9cacbcccdcecfd0d1d2d3d4d5d6d7d8d9dadbdcdddedfe0e1e2e3e4e5e6e7e8e9eaebecedeeeff0f1f2f3f4f5f6f7f8f9fac9cacbcccdcecfd0d1d2d3d4d5d6d7d8d9dadbdcdddedfe0e1e2e3e4e5e6e7e8e9eaebecedeeeff0") ≡ notWritten 10 31 (hex "c9cacbcccdcecfd0d1d2d3d4d5d6d7d8d9dadbdcdddedfe0e1e2e3e4e5e6e7e8e9eaebecedeeeff0f1f2f3f4f5f6f7f8f9fac9cacbcccdcecfd0d1d2d3d4d5d6d7d8d9dadbdcdddedfe0e1e2e3e4e5e6e7e8e9eaebecedeeeff0"))
+    -- 10 in a loop
+    × (withoutSkips (hex "0603000000010000000000000000000003000000000000000003000603000000010000000000000000000003000000000000000001000303") (hex "c9cacbcccdcecfd0d1d2d3d4d5d6d7d8d9dadbdcdddedfe0e1e2e3e4e5e6e7e8e9eaebecedeeeff0f1f2f3f4f5f6f7f8f9fac9cacbcccdcecfd0d1d2d3d4d5d6d7d8d9dadbdcdddedfe0e1e2e3e4e5e6e7e8e9eaebecedeeeff0") ≡ notWritten 10 27 (hex "c9cacbcccdcecfd0d1d2d3d4d5d6d7d8d9dadbdcdddedfe0e1e2e3e4e5e6e7e8e9eaebecedeeeff0f1f2f3f4f5f6f7f8f9fac9cacbcccdcecfd0d1d2d3d4d5d6d7d8d9dadbdcdddedfe0e1e2e3e4e5e6e7e8e9eaebecedeeeff0"))
+    -- 1 of a later record before 10
+    × (withoutSkips (hex "060300000001000000000000000000000300000000000000000100030603000000010000000000000000000003000000000000000003") [] ≡ notWritten 1 28 [])
+    -- 2 of a later record before 10
+    × (withoutSkips (hex "0603000000010000000000000000000003000000000000000001000307") [] ≡ notWritten 2 28 [])
+    -- 3 of a later record before 10
+    × (withoutSkips (hex "060300000001000000000000000000000300000000000000000100030102000100") [] ≡ notWritten 3 28 [])
+    -- 4 before 10
+    × (withoutSkips (hex "060300000001000000000000000000000300000000000000000100030403040304030403040304030403040304030403040304030403040304030403040304030403040304030403040304030403040304030403040304030403040303") [] ≡ notWritten 4 90 [])
+    -- 5 of a later record before 10
+    × (withoutSkips (hex "0603000000010000000000000000000003000000000000000001000303") [] ≡ notWritten 5 28 [])
+    -- open at the end before 10
+    × (withoutSkips (hex "060300000001000000000000000000000300000000000000000100") [] ≡ notWritten 5 27 [])
+    -- 3 before an area of 7 bytes
+    × (withSkips (hex "06000000000100000000000000000000030000000000000000001003") (hex "c9cacbcccdcecfd0d1d2d3d4d5d6d7d8d9dadbdcdddedfe0e1e2e3e4e5e6e7e8e9eaebecedeeeff0") ≡ notWritten 3 0 (hex "c9cacbcccdcecfd0d1d2d3d4d5d6d7d8d9dadbdcdddedfe0e1e2e3e4e5e6e7e8e9eaebecedeeeff0"))
+unfolding computes
+converter-2 = (refl, refl, refl, refl, refl, refl, refl, refl, refl, refl, refl, refl, refl, refl, refl, refl, refl, refl, refl, refl)
+
+pub converter-call-1 :
+    -- kind 2 becomes kind 6, its skip its start
+    (withSkipsCall (hex "0203000000010000000000000000000003000000000000000003") (hex "c9cacbcccdcecfd0d1d2d3d4d5d6d7d8d9dadbdcdddedfe0e1e2e3e4") (hex "c9cacbcccdcecfd0") ≡ lent 0 (hex "06030000000100000000000000000000030000000000000000030003") (hex "1c00000000000000"))
+    -- to kind 6, buffer one byte short
+    × (withSkipsCall (hex "0203000000010000000000000000000003000000000000000003") (hex "c9cacbcccdcecfd0d1d2d3d4d5d6d7d8d9dadbdcdddedfe0e1e2e3") (hex "c9cacbcccdcecfd0") ≡ lent 9 (hex "c9cacbcccdcecfd0d1d2d3d4d5d6d7d8d9dadbdcdddedfe0e1e2e3") (hex "c9cacbcccdcecfd0"))
+    -- to kind 6, buffer three bytes longer: they stay
+    × (withSkipsCall (hex "0203000000010000000000000000000003000000000000000003") (hex "c9cacbcccdcecfd0d1d2d3d4d5d6d7d8d9dadbdcdddedfe0e1e2e3e4e5e6e7") (hex "c9cacbcccdcecfd0") ≡ lent 0 (hex "06030000000100000000000000000000030000000000000000030003e5e6e7") (hex "1c00000000000000"))
+    -- to kind 6, a buffer that holds the old sheet
+    × (withSkipsCall (hex "0203000000010000000000000000000003000000000000000003") (hex "c9cacbcccdcecfd0d1d2d3d4d5d6d7d8d9dadbdcdddedfe0e1e2") (hex "c9cacbcccdcecfd0") ≡ lent 9 (hex "c9cacbcccdcecfd0d1d2d3d4d5d6d7d8d9dadbdcdddedfe0e1e2") (hex "c9cacbcccdcecfd0"))
+    -- kind 6 stays, a skip below start
+    × (withSkipsCall (hex "06030000000100000000000000000000030000000000000000010003") (hex "c9cacbcccdcecfd0d1d2d3d4d5d6d7d8d9dadbdcdddedfe0e1e2e3e4") (hex "c9cacbcccdcecfd0") ≡ lent 0 (hex "06030000000100000000000000000000030000000000000000010003") (hex "1c00000000000000"))
+    -- kind 6 stays, a skip above start
+    × (withSkipsCall (hex "06030000000100000000000000000000030000000000000000040003") (hex "c9cacbcccdcecfd0d1d2d3d4d5d6d7d8d9dadbdcdddedfe0e1e2e3e4") (hex "c9cacbcccdcecfd0") ≡ lent 0 (hex "06030000000100000000000000000000030000000000000000040003") (hex "1c00000000000000"))
+    -- to kind 6, all kinds
+    × (withSkipsCall (hex "0402020107000300feff00000000000000ff0f00000000000000060000000001000000ff000000000000050001000000000000040301010001000303050603000000010000000000000000000003000000000000000003000303") (hex "c9cacbcccdcecfd0d1d2d3d4d5d6d7d8d9dadbdcdddedfe0e1e2e3e4e5e6e7e8e9eaebecedeeeff0f1f2f3f4f5f6f7f8f9fac9cacbcccdcecfd0d1d2d3d4d5d6d7d8d9dadbdcdddedfe0e1e2e3e4e5e6e7e8e9eaebecedeeeff0f1f2") (hex "c9cacbcccdcecfd0") ≡ lent 0 (hex "0406020107000300feff00000000000000ff0f000000000000000201060000000001000000ff000000000000050001000000000000040301010001000303050603000000010000000000000000000003000000000000000003000303") (hex "5c00000000000000"))
+    -- to kind 6, no loop
+    × (withSkipsCall (hex "040101002c010503") (hex "c9cacbcccdcecfd0") (hex "c9cacbcccdcecfd0") ≡ lent 0 (hex "040101002c010503") (hex "0800000000000000"))
+    -- to kind 6, no loop, buffer one byte short
+    × (withSkipsCall (hex "040101002c010503") (hex "c9cacbcccdcecf") (hex "c9cacbcccdcecfd0") ≡ lent 9 (hex "c9cacbcccdcecf") (hex "c9cacbcccdcecfd0"))
+    -- to kind 6, empty sheet
+    × (withSkipsCall [] [] (hex "c9cacbcccdcecfd0") ≡ lent 0 [] (hex "0000000000000000"))
+    -- to kind 6, empty sheet, the buffer stays
+    × (withSkipsCall [] (hex "c9ca") (hex "c9cacbcccdcecfd0") ≡ lent 0 (hex "c9ca") (hex "0000000000000000"))
+    -- to kind 6, 1 before 9
+    × (withSkipsCall (hex "0603000000010000000000000000000003000000000000000003") [] [] ≡ lent 1 [] [])
+    -- to kind 6, 2 before 9
+    × (withSkipsCall (hex "0407") [] [] ≡ lent 2 [] [])
+    -- to kind 6, 3 before 9
+    × (withSkipsCall (hex "06000000000100000000000000000000030000000000000000001003") [] [] ≡ lent 3 [] [])
+    -- to kind 6, 4 before 9
+    × (withSkipsCall (hex "0403040304030403040304030403040304030403040304030403040304030403040304030403040304030403040304030403040304030403040304030403040303") [] [] ≡ lent 4 [] [])
+    -- to kind 6, 5 before 9
+    × (withSkipsCall (hex "020300000001000000000000000000000300000000000000000303") [] [] ≡ lent 5 [] [])
+    -- to kind 6, open at the end before 9
+    × (withSkipsCall (hex "02030000000100000000000000000000030000000000000000") [] [] ≡ lent 5 [] [])
+    -- to kind 6, a refusal leaves buffer and area
+    × (withSkipsCall (hex "06000000000100000000000000000000030000000000000000001003") (hex "c9cacbcccdcecfd0d1d2d3d4d5d6d7d8d9dadbdcdddedfe0e1e2e3e4e5e6") (hex "c9cacbcccdcecfd0d1") ≡ lent 3 (hex "c9cacbcccdcecfd0d1d2d3d4d5d6d7d8d9dadbdcdddedfe0e1e2e3e4e5e6") (hex "c9cacbcccdcecfd0d1"))
+    -- kind 6 becomes kind 2
+    × (withoutSkipsCall (hex "06030000000100000000000000000000030000000000000000030003") (hex "c9cacbcccdcecfd0d1d2d3d4d5d6d7d8d9dadbdcdddedfe0e1e2") (hex "c9cacbcccdcecfd0") ≡ lent 0 (hex "0203000000010000000000000000000003000000000000000003") (hex "1a00000000000000"))
+    -- to kind 2, buffer one byte short
+    × (withoutSkipsCall (hex "06030000000100000000000000000000030000000000000000030003") (hex "c9cacbcccdcecfd0d1d2d3d4d5d6d7d8d9dadbdcdddedfe0e1") (hex "c9cacbcccdcecfd0") ≡ lent 9 (hex "c9cacbcccdcecfd0d1d2d3d4d5d6d7d8d9dadbdcdddedfe0e1") (hex "c9cacbcccdcecfd0"))
+unfolding computes
+converter-call-1 = (refl, refl, refl, refl, refl, refl, refl, refl, refl, refl, refl, refl, refl, refl, refl, refl, refl, refl, refl, refl)
+
+pub converter-call-2 :
+    -- to kind 2, buffer three bytes longer: they stay
+    (withoutSkipsCall (hex "06030000000100000000000000000000030000000000000000030003") (hex "c9cacbcccdcecfd0d1d2d3d4d5d6d7d8d9dadbdcdddedfe0e1e2e3e4e5") (hex "c9cacbcccdcecfd0") ≡ lent 0 (hex "0203000000010000000000000000000003000000000000000003e3e4e5") (hex "1a00000000000000"))
+    -- kind 2 stays
+    × (withoutSkipsCall (hex "0203000000010000000000000000000003000000000000000003") (hex "c9cacbcccdcecfd0d1d2d3d4d5d6d7d8d9dadbdcdddedfe0e1e2") (hex "c9cacbcccdcecfd0") ≡ lent 0 (hex "0203000000010000000000000000000003000000000000000003") (hex "1a00000000000000"))
+    -- to kind 2, all kinds
+    × (withoutSkipsCall (hex "0406020107000300feff00000000000000ff0f000000000000000201060000000001000000ff00000000000005000100000000000000000101000100030305020300000001000000000000000000000300000000000000000303") (hex "c9cacbcccdcecfd0d1d2d3d4d5d6d7d8d9dadbdcdddedfe0e1e2e3e4e5e6e7e8e9eaebecedeeeff0f1f2f3f4f5f6f7f8f9fac9cacbcccdcecfd0d1d2d3d4d5d6d7d8d9dadbdcdddedfe0e1e2e3e4e5e6e7e8e9eaebec") (hex "c9cacbcccdcecfd0") ≡ lent 0 (hex "0402020107000300feff00000000000000ff0f00000000000000020000000001000000ff0000000000000500010000000000000101000100030305020300000001000000000000000000000300000000000000000303") (hex "5600000000000000"))
+    -- to kind 2, no loop
+    × (withoutSkipsCall (hex "040101002c010503") (hex "c9cacbcccdcecfd0") (hex "c9cacbcccdcecfd0") ≡ lent 0 (hex "040101002c010503") (hex "0800000000000000"))
+    -- to kind 2, empty sheet
+    × (withoutSkipsCall [] [] (hex "c9cacbcccdcecfd0") ≡ lent 0 [] (hex "0000000000000000"))
+    -- to kind 2, empty sheet, the buffer stays
+    × (withoutSkipsCall [] (hex "c9ca") (hex "c9cacbcccdcecfd0") ≡ lent 0 (hex "c9ca") (hex "0000000000000000"))
+    -- 10: a skip below start
+    × (withoutSkipsCall (hex "06030000000100000000000000000000030000000000000000010003") (hex "c9cacbcccdcecfd0d1d2d3d4d5d6d7d8d9dadbdcdddedfe0e1e2e3e4e5e6e7e8e9eaebecedeeeff0") (hex "c9cacbcccdcecfd0") ≡ lent 10 (hex "c9cacbcccdcecfd0d1d2d3d4d5d6d7d8d9dadbdcdddedfe0e1e2e3e4e5e6e7e8e9eaebecedeeeff0") (hex "c9cacbcccdcecfd0"))
+    -- 10: a skip above start
+    × (withoutSkipsCall (hex "06030000000100000000000000000000030000000000000000040003") (hex "c9cacbcccdcecfd0d1d2d3d4d5d6d7d8d9dadbdcdddedfe0e1e2e3e4e5e6e7e8e9eaebecedeeeff0") (hex "c9cacbcccdcecfd0") ≡ lent 10 (hex "c9cacbcccdcecfd0d1d2d3d4d5d6d7d8d9dadbdcdddedfe0e1e2e3e4e5e6e7e8e9eaebecedeeeff0") (hex "c9cacbcccdcecfd0"))
+    -- 10: a skip that differs in its second byte
+    × (withoutSkipsCall (hex "06030000000100000000000000000000030000000000000000030103") (hex "c9cacbcccdcecfd0d1d2d3d4d5d6d7d8d9dadbdcdddedfe0e1e2e3e4e5e6e7e8e9eaebecedeeeff0") (hex "c9cacbcccdcecfd0") ≡ lent 10 (hex "c9cacbcccdcecfd0d1d2d3d4d5d6d7d8d9dadbdcdddedfe0e1e2e3e4e5e6e7e8e9eaebecedeeeff0") (hex "c9cacbcccdcecfd0"))
+    -- 10 before 9
+    × (withoutSkipsCall (hex "06030000000100000000000000000000030000000000000000010003") [] [] ≡ lent 10 [] [])
+    -- 10 at the first of two, by the old sheet
+    × (withoutSkipsCall (hex "060300000001000000000000000000000300000000000000000300030603000000010000000000000000000003000000000000000001000306030000000100000000000000000000030000000000000000040003") (hex "c9cacbcccdcecfd0d1d2d3d4d5d6d7d8d9dadbdcdddedfe0e1e2e3e4e5e6e7e8e9eaebecedeeeff0f1f2f3f4f5f6f7f8f9fac9cacbcccdcecfd0d1d2d3d4d5d6d7d8d9dadbdcdddedfe0e1e2e3e4e5e6e7e8e9eaebecedeeeff0") (hex "c9cacbcccdcecfd0") ≡ lent 10 (hex "c9cacbcccdcecfd0d1d2d3d4d5d6d7d8d9dadbdcdddedfe0e1e2e3e4e5e6e7e8e9eaebecedeeeff0f1f2f3f4f5f6f7f8f9fac9cacbcccdcecfd0d1d2d3d4d5d6d7d8d9dadbdcdddedfe0e1e2e3e4e5e6e7e8e9eaebecedeeeff0") (hex "c9cacbcccdcecfd0"))
+    -- 10 after a loop of kind 2
+    × (withoutSkipsCall (hex "0101000100020300000001000000000000000000000300000000000000000306030000000100000000000000000000030000000000000000040003") (hex "c9cacbcccdcecfd0d1d2d3d4d5d6d7d8d9dadbdcdddedfe0e1e2e3e4e5e6e7e8e9eaebecedeeeff0f1f2f3f4f5f6f7f8f9fac9cacbcccdcecfd0d1d2d3d4d5d6d7d8d9dadbdcdddedfe0e1e2e3e4e5e6e7e8e9eaebecedeeeff0") (hex "c9cacbcccdcecfd0") ≡ lent 10 (hex "c9cacbcccdcecfd0d1d2d3d4d5d6d7d8d9dadbdcdddedfe0e1e2e3e4e5e6e7e8e9eaebecedeeeff0f1f2f3f4f5f6f7f8f9fac9cacbcccdcecfd0d1d2d3d4d5d6d7d8d9dadbdcdddedfe0e1e2e3e4e5e6e7e8e9eaebecedeeeff0") (hex "c9cacbcccdcecfd0"))
+    -- 10 in a loop
+    × (withoutSkipsCall (hex "0603000000010000000000000000000003000000000000000003000603000000010000000000000000000003000000000000000001000303") (hex "c9cacbcccdcecfd0d1d2d3d4d5d6d7d8d9dadbdcdddedfe0e1e2e3e4e5e6e7e8e9eaebecedeeeff0f1f2f3f4f5f6f7f8f9fac9cacbcccdcecfd0d1d2d3d4d5d6d7d8d9dadbdcdddedfe0e1e2e3e4e5e6e7e8e9eaebecedeeeff0") (hex "c9cacbcccdcecfd0") ≡ lent 10 (hex "c9cacbcccdcecfd0d1d2d3d4d5d6d7d8d9dadbdcdddedfe0e1e2e3e4e5e6e7e8e9eaebecedeeeff0f1f2f3f4f5f6f7f8f9fac9cacbcccdcecfd0d1d2d3d4d5d6d7d8d9dadbdcdddedfe0e1e2e3e4e5e6e7e8e9eaebecedeeeff0") (hex "c9cacbcccdcecfd0"))
+    -- 1 of a later record before 10
+    × (withoutSkipsCall (hex "060300000001000000000000000000000300000000000000000100030603000000010000000000000000000003000000000000000003") [] [] ≡ lent 1 [] [])
+    -- 2 of a later record before 10
+    × (withoutSkipsCall (hex "0603000000010000000000000000000003000000000000000001000307") [] [] ≡ lent 2 [] [])
+    -- 3 of a later record before 10
+    × (withoutSkipsCall (hex "060300000001000000000000000000000300000000000000000100030102000100") [] [] ≡ lent 3 [] [])
+    -- 4 before 10
+    × (withoutSkipsCall (hex "060300000001000000000000000000000300000000000000000100030403040304030403040304030403040304030403040304030403040304030403040304030403040304030403040304030403040304030403040304030403040303") [] [] ≡ lent 4 [] [])
+    -- 5 of a later record before 10
+    × (withoutSkipsCall (hex "0603000000010000000000000000000003000000000000000001000303") [] [] ≡ lent 5 [] [])
+    -- open at the end before 10
+    × (withoutSkipsCall (hex "060300000001000000000000000000000300000000000000000100") [] [] ≡ lent 5 [] [])
+    -- to kind 6, area of 9 bytes: the last stays
+    × (withSkipsCall (hex "0203000000010000000000000000000003000000000000000003") (hex "c9cacbcccdcecfd0d1d2d3d4d5d6d7d8d9dadbdcdddedfe0e1e2e3e4") (hex "c9cacbcccdcecfd0d1") ≡ lent 0 (hex "06030000000100000000000000000000030000000000000000030003") (hex "1c00000000000000d1"))
+unfolding computes
+converter-call-2 = (refl, refl, refl, refl, refl, refl, refl, refl, refl, refl, refl, refl, refl, refl, refl, refl, refl, refl, refl, refl)
+
+pub converter-call-3 :
+    -- to kind 6, area of 7 bytes
+    (withSkipsCall (hex "0203000000010000000000000000000003000000000000000003") (hex "c9cacbcccdcecfd0d1d2d3d4d5d6d7d8d9dadbdcdddedfe0e1e2e3e4") (hex "c9cacbcccdcecf") ≡ lent 9 (hex "c9cacbcccdcecfd0d1d2d3d4d5d6d7d8d9dadbdcdddedfe0e1e2e3e4") (hex "c9cacbcccdcecf"))
+    -- to kind 6, no area
+    × (withSkipsCall [] [] [] ≡ lent 9 [] [])
+    -- to kind 6, neither buffer nor area long enough
+    × (withSkipsCall (hex "0203000000010000000000000000000003000000000000000003") (hex "c9cacbcccdcecfd0d1d2d3d4d5d6d7d8d9dadbdcdddedfe0e1e2e3") (hex "c9cacbcccdcecf") ≡ lent 9 (hex "c9cacbcccdcecfd0d1d2d3d4d5d6d7d8d9dadbdcdddedfe0e1e2e3") (hex "c9cacbcccdcecf"))
+    -- to kind 2, area of 9 bytes: the last stays
+    × (withoutSkipsCall (hex "06030000000100000000000000000000030000000000000000030003") (hex "c9cacbcccdcecfd0d1d2d3d4d5d6d7d8d9dadbdcdddedfe0e1e2") (hex "c9cacbcccdcecfd0d1") ≡ lent 0 (hex "0203000000010000000000000000000003000000000000000003") (hex "1a00000000000000d1"))
+    -- to kind 2, area of 7 bytes
+    × (withoutSkipsCall (hex "06030000000100000000000000000000030000000000000000030003") (hex "c9cacbcccdcecfd0d1d2d3d4d5d6d7d8d9dadbdcdddedfe0e1e2") (hex "c9cacbcccdcecf") ≡ lent 9 (hex "c9cacbcccdcecfd0d1d2d3d4d5d6d7d8d9dadbdcdddedfe0e1e2") (hex "c9cacbcccdcecf"))
+    -- to kind 2, no area
+    × (withoutSkipsCall [] [] [] ≡ lent 9 [] [])
+    -- 10 before an area of 7 bytes
+    × (withoutSkipsCall (hex "06030000000100000000000000000000030000000000000000010003") (hex "c9cacbcccdcecfd0d1d2d3d4d5d6d7d8d9dadbdcdddedfe0e1e2e3e4e5e6e7e8e9eaebecedeeeff0") (hex "c9cacbcccdcecf") ≡ lent 10 (hex "c9cacbcccdcecfd0d1d2d3d4d5d6d7d8d9dadbdcdddedfe0e1e2e3e4e5e6e7e8e9eaebecedeeeff0") (hex "c9cacbcccdcecf"))
+    -- 3 before an area of 7 bytes
+    × (withSkipsCall (hex "06000000000100000000000000000000030000000000000000001003") (hex "c9cacbcccdcecfd0d1d2d3d4d5d6d7d8d9dadbdcdddedfe0e1e2e3e4e5e6e7e8e9eaebecedeeeff0") (hex "c9cacbcccdcecf") ≡ lent 3 (hex "c9cacbcccdcecfd0d1d2d3d4d5d6d7d8d9dadbdcdddedfe0e1e2e3e4e5e6e7e8e9eaebecedeeeff0") (hex "c9cacbcccdcecf"))
+unfolding computes
+converter-call-3 = (refl, refl, refl, refl, refl, refl, refl, refl)
+
 pub numbers-1 :
     -- every figure is below 2^62
     (figureLimit ≡ 4611686018427387904)
     -- visits a loop, where every loop is closed
     × (visitsPerLoop ≡ 24)
     -- bytes of the program's input that matter
-    × (inputLimit ≡ 1613)
+    × (inputLimit ≡ 1741)
 unfolding computes
 numbers-1 = (refl, refl, refl)

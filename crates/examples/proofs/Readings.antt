@@ -221,8 +221,8 @@ pub readings-6 :
     × (answer (hex "010100010004") zeroParameters 1 ≡ refused 5 6)
     -- kind 0
     × (answer (hex "00") zeroParameters 1 ≡ refused 2 0)
-    -- kind 6
-    × (answer (hex "010100010006") zeroParameters 1 ≡ refused 2 5)
+    -- kind 7
+    × (answer (hex "010100010007") zeroParameters 1 ≡ refused 2 5)
     -- 6 after a loop with a choice
     × (answer (hex "02000000000100000000000000000000010000000000000000040101000100050101000100030302000000000100000000000000000000000800000000000000010100010003") zeroParameters 9 ≡ refused 6 39)
     -- 6 nested

@@ -7,7 +7,7 @@ use lib.ListN.{drop}
 use Rattle.meaning.specs.Record.{Loop, Record, workRecord, loopRecord, endRecord, choiceRecord, nextArmRecord}
 use Rattle.meaning.specs.Time.{bounds}
 use Rattle.meaning.specs.Stage.{loopFrame, choiceFrame, state}
-use Rattle.meaning.proofs.Vocabulary.{zeroParameters, form, loopOf, stateAfter}
+use Rattle.meaning.proofs.Vocabulary.{zeroParameters, form, loopOf, skipLoopOf, stateAfter}
 use Rattle.meaning.proofs.Computes.{computes}
 
 -- 1. costs: i 0 to 9
@@ -373,23 +373,104 @@ pub states-14 :
 unfolding computes
 states-14 = (refl, refl, refl, refl, refl, refl, refl, refl, refl, refl, refl, refl, refl, refl, refl, refl, refl, refl, refl, refl, refl, refl, refl, refl, refl)
 
--- 15. parameters, a negative factor, strides
-abbrev loop15-0 : Loop
-loop15-0 = loopOf 0 0 3 (form (pos 0) (pos 0 ∷ pos 0 ∷ pos 0 ∷ []) (pos 1 ∷ pos 0 ∷ pos 0 ∷ pos 0 ∷ [])) (form (pos 0) (pos 0 ∷ pos 0 ∷ pos 0 ∷ []) (pos 1 ∷ pos 0 ∷ pos 2 ∷ pos 0 ∷ []))
+-- 15. skip in place of start, and start in place of skip
+abbrev loop15-1 : Loop
+loop15-1 = skipLoopOf 7 9 1 (form (pos 5) (pos 0 ∷ pos 0 ∷ pos 0 ∷ []) (pos 0 ∷ pos 0 ∷ pos 0 ∷ pos 0 ∷ [])) (form (pos 4) (pos 0 ∷ pos 0 ∷ pos 0 ∷ []) (pos 0 ∷ pos 0 ∷ pos 0 ∷ pos 0 ∷ [])) 3
 
-abbrev loop15-2 : Loop
-loop15-2 = loopOf 2 0 2 (form (pos 1) (negsuc 0 ∷ pos 0 ∷ pos 0 ∷ []) (pos 0 ∷ pos 0 ∷ pos 0 ∷ pos 0 ∷ [])) (form (pos 20) (negsuc 0 ∷ pos 0 ∷ pos 0 ∷ []) (pos 0 ∷ negsuc 0 ∷ pos 0 ∷ pos 0 ∷ []))
+abbrev loop15-4 : Loop
+loop15-4 = skipLoopOf 7 1 1 (form (pos 0) (pos 0 ∷ pos 0 ∷ pos 0 ∷ []) (pos 0 ∷ pos 0 ∷ pos 0 ∷ pos 0 ∷ [])) (form (pos 1) (pos 0 ∷ pos 0 ∷ pos 0 ∷ []) (pos 0 ∷ pos 0 ∷ pos 0 ∷ pos 0 ∷ [])) 3
 
 abbrev records15 : List Record
-records15 = loopRecord loop15-0 ∷ workRecord 1 2 ∷ loopRecord loop15-2 ∷ workRecord 5 6 ∷ endRecord ∷ endRecord ∷ []
+records15 = workRecord 1 2 ∷ loopRecord loop15-1 ∷ workRecord 1 1 ∷ endRecord ∷ loopRecord loop15-4 ∷ workRecord 1 1 ∷ endRecord ∷ workRecord 10 20 ∷ []
 
 pub states-15 :
-    (stateAfter 0 records15 (negsuc 3 ∷ pos 7 ∷ pos 3 ∷ pos 0 ∷ []) ≡ state (drop 0 records15) (bounds 0 0) [] 0)
-    × (stateAfter 1 records15 (negsuc 3 ∷ pos 7 ∷ pos 3 ∷ pos 0 ∷ []) ≡ state (drop 1 records15) (bounds 0 0) (loopFrame loop15-0 (drop 1 records15) 0 [] (bounds 0 0) ∷ []) 1)
-    × (stateAfter 2 records15 (negsuc 3 ∷ pos 7 ∷ pos 3 ∷ pos 0 ∷ []) ≡ state (drop 3 records15) (bounds 0 0) (loopFrame loop15-2 (drop 3 records15) 0 [] (bounds 3 4) ∷ loopFrame loop15-0 (drop 1 records15) 0 [] (bounds 0 0) ∷ []) 2)
-    × (stateAfter 3 records15 (negsuc 3 ∷ pos 7 ∷ pos 3 ∷ pos 0 ∷ []) ≡ state (drop 1 records15) (bounds 0 0) (loopFrame loop15-0 (drop 1 records15) 1 (bounds 38 46 ∷ []) (bounds 0 0) ∷ []) 3)
-    × (stateAfter 4 records15 (negsuc 3 ∷ pos 7 ∷ pos 3 ∷ pos 0 ∷ []) ≡ state (drop 3 records15) (bounds 0 0) (loopFrame loop15-2 (drop 3 records15) 0 [] (bounds 3 4) ∷ loopFrame loop15-0 (drop 1 records15) 1 (bounds 38 46 ∷ []) (bounds 0 0) ∷ []) 4)
-    × (stateAfter 5 records15 (negsuc 3 ∷ pos 7 ∷ pos 3 ∷ pos 0 ∷ []) ≡ state (drop 6 records15) (bounds 114 138) [] 4)
-    × (stateAfter 6 records15 (negsuc 3 ∷ pos 7 ∷ pos 3 ∷ pos 0 ∷ []) ≡ state (drop 6 records15) (bounds 114 138) [] 4)
+    (stateAfter 0 records15 zeroParameters ≡ state (drop 0 records15) (bounds 0 0) [] 0)
+    × (stateAfter 1 records15 zeroParameters ≡ state (drop 5 records15) (bounds 0 0) (loopFrame loop15-4 (drop 5 records15) 0 [] (bounds 11 12) ∷ []) 1)
+    × (stateAfter 2 records15 zeroParameters ≡ state (drop 8 records15) (bounds 25 36) [] 1)
+    × (stateAfter 3 records15 zeroParameters ≡ state (drop 8 records15) (bounds 25 36) [] 1)
 unfolding computes
-states-15 = (refl, refl, refl, refl, refl, refl, refl)
+states-15 = (refl, refl, refl, refl)
+
+-- 16. walked: the inner loop pays skip in the first trip
+abbrev loop16-0 : Loop
+loop16-0 = loopOf 1 0 1 (form (pos 0) (pos 0 ∷ pos 0 ∷ pos 0 ∷ []) (pos 0 ∷ pos 0 ∷ pos 0 ∷ pos 0 ∷ [])) (form (pos 2) (pos 0 ∷ pos 0 ∷ pos 0 ∷ []) (pos 0 ∷ pos 0 ∷ pos 0 ∷ pos 0 ∷ []))
+
+abbrev loop16-1 : Loop
+loop16-1 = skipLoopOf 5 1 1 (form (pos 0) (pos 0 ∷ pos 0 ∷ pos 0 ∷ []) (pos 0 ∷ pos 0 ∷ pos 0 ∷ pos 0 ∷ [])) (form (negsuc 0) (pos 1 ∷ pos 0 ∷ pos 0 ∷ []) (pos 0 ∷ pos 0 ∷ pos 0 ∷ pos 0 ∷ [])) 2
+
+abbrev records16 : List Record
+records16 = loopRecord loop16-0 ∷ loopRecord loop16-1 ∷ workRecord 1 3 ∷ endRecord ∷ endRecord ∷ []
+
+pub states-16 :
+    (stateAfter 0 records16 zeroParameters ≡ state (drop 0 records16) (bounds 0 0) [] 0)
+    × (stateAfter 1 records16 zeroParameters ≡ state (drop 1 records16) (bounds 0 0) (loopFrame loop16-0 (drop 1 records16) 0 [] (bounds 1 1) ∷ []) 1)
+    × (stateAfter 2 records16 zeroParameters ≡ state (drop 1 records16) (bounds 0 0) (loopFrame loop16-0 (drop 1 records16) 1 (bounds 2 2 ∷ []) (bounds 1 1) ∷ []) 2)
+    × (stateAfter 3 records16 zeroParameters ≡ state (drop 2 records16) (bounds 0 0) (loopFrame loop16-1 (drop 2 records16) 0 [] (bounds 5 5) ∷ loopFrame loop16-0 (drop 1 records16) 1 (bounds 2 2 ∷ []) (bounds 1 1) ∷ []) 3)
+    × (stateAfter 4 records16 zeroParameters ≡ state (drop 1 records16) (bounds 0 0) (loopFrame loop16-0 (drop 1 records16) 2 (bounds 9 11 ∷ []) (bounds 1 1) ∷ []) 4)
+    × (stateAfter 5 records16 zeroParameters ≡ state (drop 2 records16) (bounds 0 0) (loopFrame loop16-1 (drop 2 records16) 0 [] (bounds 5 5) ∷ loopFrame loop16-0 (drop 1 records16) 2 (bounds 9 11 ∷ []) (bounds 1 1) ∷ []) 5)
+    × (stateAfter 6 records16 zeroParameters ≡ state (drop 5 records16) (bounds 19 25) [] 5)
+    × (stateAfter 7 records16 zeroParameters ≡ state (drop 5 records16) (bounds 19 25) [] 5)
+unfolding computes
+states-16 = (refl, refl, refl, refl, refl, refl, refl, refl)
+
+-- 17. closed: the inner loop, of kind 6, has a trip at least
+abbrev loop17-0 : Loop
+loop17-0 = skipLoopOf 0 0 1 (form (pos 0) (pos 0 ∷ pos 0 ∷ pos 0 ∷ []) (pos 0 ∷ pos 0 ∷ pos 0 ∷ pos 0 ∷ [])) (form (pos 3) (pos 0 ∷ pos 0 ∷ pos 0 ∷ []) (pos 0 ∷ pos 0 ∷ pos 0 ∷ pos 0 ∷ [])) 4
+
+abbrev loop17-1 : Loop
+loop17-1 = skipLoopOf 5 0 1 (form (pos 0) (pos 0 ∷ pos 0 ∷ pos 0 ∷ []) (pos 0 ∷ pos 0 ∷ pos 0 ∷ pos 0 ∷ [])) (form (pos 0) (pos 1 ∷ pos 0 ∷ pos 0 ∷ []) (pos 0 ∷ pos 0 ∷ pos 0 ∷ pos 0 ∷ [])) 2
+
+abbrev records17 : List Record
+records17 = loopRecord loop17-0 ∷ loopRecord loop17-1 ∷ workRecord 1 1 ∷ endRecord ∷ endRecord ∷ []
+
+pub states-17 :
+    (stateAfter 0 records17 zeroParameters ≡ state (drop 0 records17) (bounds 0 0) [] 0)
+    × (stateAfter 1 records17 zeroParameters ≡ state (drop 1 records17) (bounds 0 0) (loopFrame loop17-0 (drop 1 records17) 0 [] (bounds 0 0) ∷ []) 1)
+    × (stateAfter 2 records17 zeroParameters ≡ state (drop 2 records17) (bounds 0 0) (loopFrame loop17-1 (drop 2 records17) 0 [] (bounds 5 5) ∷ loopFrame loop17-0 (drop 1 records17) 0 [] (bounds 0 0) ∷ []) 2)
+    × (stateAfter 3 records17 zeroParameters ≡ state (drop 1 records17) (bounds 0 0) (loopFrame loop17-0 (drop 1 records17) 1 (bounds 6 6 ∷ []) (bounds 0 0) ∷ []) 3)
+    × (stateAfter 4 records17 zeroParameters ≡ state (drop 2 records17) (bounds 0 0) (loopFrame loop17-1 (drop 2 records17) 0 [] (bounds 5 5) ∷ loopFrame loop17-0 (drop 1 records17) 1 (bounds 6 6 ∷ []) (bounds 0 0) ∷ []) 4)
+    × (stateAfter 5 records17 zeroParameters ≡ state (drop 5 records17) (bounds 30 30) [] 4)
+    × (stateAfter 6 records17 zeroParameters ≡ state (drop 5 records17) (bounds 30 30) [] 4)
+unfolding computes
+states-17 = (refl, refl, refl, refl, refl, refl, refl)
+
+-- 18. skip in an arm
+abbrev loop18-0 : Loop
+loop18-0 = loopOf 0 0 1 (form (pos 0) (pos 0 ∷ pos 0 ∷ pos 0 ∷ []) (pos 0 ∷ pos 0 ∷ pos 0 ∷ pos 0 ∷ [])) (form (pos 1) (pos 0 ∷ pos 0 ∷ pos 0 ∷ []) (pos 0 ∷ pos 0 ∷ pos 0 ∷ pos 0 ∷ []))
+
+abbrev loop18-2 : Loop
+loop18-2 = skipLoopOf 9 0 1 (form (pos 0) (pos 0 ∷ pos 0 ∷ pos 0 ∷ []) (pos 0 ∷ pos 0 ∷ pos 0 ∷ pos 0 ∷ [])) (form (negsuc 0) (pos 1 ∷ pos 0 ∷ pos 0 ∷ []) (pos 0 ∷ pos 0 ∷ pos 0 ∷ pos 0 ∷ [])) 2
+
+abbrev records18 : List Record
+records18 = loopRecord loop18-0 ∷ choiceRecord ∷ loopRecord loop18-2 ∷ workRecord 1 1 ∷ endRecord ∷ nextArmRecord ∷ workRecord 4 4 ∷ endRecord ∷ endRecord ∷ []
+
+pub states-18 :
+    (stateAfter 0 records18 zeroParameters ≡ state (drop 0 records18) (bounds 0 0) [] 0)
+    × (stateAfter 1 records18 zeroParameters ≡ state (drop 1 records18) (bounds 0 0) (loopFrame loop18-0 (drop 1 records18) 0 [] (bounds 0 0) ∷ []) 1)
+    × (stateAfter 2 records18 zeroParameters ≡ state (drop 1 records18) (bounds 0 0) (loopFrame loop18-0 (drop 1 records18) 1 (bounds 2 4 ∷ []) (bounds 0 0) ∷ []) 2)
+    × (stateAfter 3 records18 zeroParameters ≡ state (drop 3 records18) (bounds 0 0) (loopFrame loop18-2 (drop 3 records18) 0 [] (bounds 9 9) ∷ choiceFrame none (bounds 0 0) ∷ loopFrame loop18-0 (drop 1 records18) 1 (bounds 2 4 ∷ []) (bounds 0 0) ∷ []) 3)
+    × (stateAfter 4 records18 zeroParameters ≡ state (drop 9 records18) (bounds 6 14) [] 3)
+    × (stateAfter 5 records18 zeroParameters ≡ state (drop 9 records18) (bounds 6 14) [] 3)
+unfolding computes
+states-18 = (refl, refl, refl, refl, refl, refl)
+
+-- 19. parameters, a negative factor, strides
+abbrev loop19-0 : Loop
+loop19-0 = loopOf 0 0 3 (form (pos 0) (pos 0 ∷ pos 0 ∷ pos 0 ∷ []) (pos 1 ∷ pos 0 ∷ pos 0 ∷ pos 0 ∷ [])) (form (pos 0) (pos 0 ∷ pos 0 ∷ pos 0 ∷ []) (pos 1 ∷ pos 0 ∷ pos 2 ∷ pos 0 ∷ []))
+
+abbrev loop19-2 : Loop
+loop19-2 = loopOf 2 0 2 (form (pos 1) (negsuc 0 ∷ pos 0 ∷ pos 0 ∷ []) (pos 0 ∷ pos 0 ∷ pos 0 ∷ pos 0 ∷ [])) (form (pos 20) (negsuc 0 ∷ pos 0 ∷ pos 0 ∷ []) (pos 0 ∷ negsuc 0 ∷ pos 0 ∷ pos 0 ∷ []))
+
+abbrev records19 : List Record
+records19 = loopRecord loop19-0 ∷ workRecord 1 2 ∷ loopRecord loop19-2 ∷ workRecord 5 6 ∷ endRecord ∷ endRecord ∷ []
+
+pub states-19 :
+    (stateAfter 0 records19 (negsuc 3 ∷ pos 7 ∷ pos 3 ∷ pos 0 ∷ []) ≡ state (drop 0 records19) (bounds 0 0) [] 0)
+    × (stateAfter 1 records19 (negsuc 3 ∷ pos 7 ∷ pos 3 ∷ pos 0 ∷ []) ≡ state (drop 1 records19) (bounds 0 0) (loopFrame loop19-0 (drop 1 records19) 0 [] (bounds 0 0) ∷ []) 1)
+    × (stateAfter 2 records19 (negsuc 3 ∷ pos 7 ∷ pos 3 ∷ pos 0 ∷ []) ≡ state (drop 3 records19) (bounds 0 0) (loopFrame loop19-2 (drop 3 records19) 0 [] (bounds 3 4) ∷ loopFrame loop19-0 (drop 1 records19) 0 [] (bounds 0 0) ∷ []) 2)
+    × (stateAfter 3 records19 (negsuc 3 ∷ pos 7 ∷ pos 3 ∷ pos 0 ∷ []) ≡ state (drop 1 records19) (bounds 0 0) (loopFrame loop19-0 (drop 1 records19) 1 (bounds 38 46 ∷ []) (bounds 0 0) ∷ []) 3)
+    × (stateAfter 4 records19 (negsuc 3 ∷ pos 7 ∷ pos 3 ∷ pos 0 ∷ []) ≡ state (drop 3 records19) (bounds 0 0) (loopFrame loop19-2 (drop 3 records19) 0 [] (bounds 3 4) ∷ loopFrame loop19-0 (drop 1 records19) 1 (bounds 38 46 ∷ []) (bounds 0 0) ∷ []) 4)
+    × (stateAfter 5 records19 (negsuc 3 ∷ pos 7 ∷ pos 3 ∷ pos 0 ∷ []) ≡ state (drop 6 records19) (bounds 114 138) [] 4)
+    × (stateAfter 6 records19 (negsuc 3 ∷ pos 7 ∷ pos 3 ∷ pos 0 ∷ []) ≡ state (drop 6 records19) (bounds 114 138) [] 4)
+unfolding computes
+states-19 = (refl, refl, refl, refl, refl, refl, refl)

@@ -13,7 +13,7 @@ use Rattle.meaning.specs.Reader.{ok, read}
 use Rattle.meaning.specs.Tree.{tree}
 use Rattle.meaning.specs.Text.{text}
 use Rattle.meaning.specs.Program.{programText}
-use Rattle.meaning.specs.TextCall.{textIn}
+use Rattle.meaning.specs.Lent.{lentIn}
 use Rattle.meaning.proofs.Consequences.{Largest, Smallest}
 use Rattle.meaning.proofs.Answers.{answer-ok}
 use Rattle.meaning.proofs.TextCalls.{text-call}
@@ -63,7 +63,7 @@ known-calls = (known-call _ _ _ _ _ _ (known-sheets .14), known-call _ _ _ _ _ _
 
 -- What is known of a call of `pumdalin_text` that was lent `buffer` and `area`, returned 0 and left `after` and `left`.
 pub record KnownText (known buffer area after left : List ℕ) : Type 0 where
-  pub held : textIn after left ≡ known
+  pub held : lentIn after left ≡ known
   pub room : (lengthSize ≤ length area) × (length known ≤ length buffer)
   pub pastText : drop (length known) after ≡ drop (length known) buffer
   pub pastLength : drop lengthSize left ≡ drop lengthSize area

@@ -1,3 +1,5 @@
+pub mod Leaving
 pub mod FiguresCalls
 pub mod LentTexts
+pub mod LentSheets
 pub mod Consequences

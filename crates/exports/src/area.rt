@@ -13,7 +13,7 @@ use figures::Figures;
 // How many bytes the figures take.
 pub(crate) const AREA_LENGTH: usize = 24;
 
-// How many bytes the length of a text takes.
+// How many bytes the length of a text or a sheet takes.
 pub(crate) const LENGTH_SIZE: usize = 8;
 
 // Least, most, visits.
@@ -26,7 +26,7 @@ pub(crate) fn put_figures(area: &mut [u8], f: Figures)
     put_unsigned64(area, at, f.visits);
 }
 
-// The length of a text.
+// The length of a text or a sheet.
 pub(crate) fn put_length(area: &mut [u8], count: usize)
     requires { ⌜ lengthSize ≤ length (now area) ⌝ }
     ensures { λ _. ⌜ now (area .exit) ≡ littleEndian lengthSize count ++ drop lengthSize (now (area .entry)) ⌝ }

@@ -1,18 +1,25 @@
 // The calls that are exported to C.
 mod area;
+mod lent_sheet;
 mod lent_text;
 
 ghost use mathlib.Core.Path.{_≡_};
 ghost use mathlib.Core.List.{[], _∷_};
+ghost use mathlib.Core.Bool.{true, false};
 ghost use Rattle.meaning.specs.CCall.{cCall};
+ghost use Rattle.meaning.specs.Converter.{withSkips, withoutSkips};
+ghost use Rattle.meaning.specs.ConverterCall.{withSkipsCall, withoutSkipsCall};
+ghost use Rattle.meaning.specs.Moved.{SameSheet, Turned};
 ghost use Rattle.meaning.specs.Program.{inputParameters, inputSheet, programText};
 ghost use Rattle.meaning.specs.Reader.{read};
 ghost use Rattle.meaning.specs.ReasonsTold.{ReasonsTold};
-ghost use Rattle.meaning.specs.TextCall.{textCall, textIn};
+ghost use Rattle.meaning.specs.TextCall.{textCall};
+ghost use Rattle.meaning.specs.Lent.{lentIn};
 ghost use Rattle.exports.specs.Demand.{Stored};
 use crate::area::AREA_LENGTH;
 use crate::area::LENGTH_SIZE;
 use crate::area::put_figures;
+use crate::lent_sheet::store_sheet;
 use crate::lent_text::store_text;
 use figures::Answer;
 use figures::cycles;
@@ -52,9 +59,9 @@ pub extern "C" fn pumdalin_figures(
 #[no_mangle]
 pub extern "C" fn pumdalin_text(input: &[u8], text: &mut [u8], answer: &mut [u8]) -> u32
     ensures number { λ r. ⌜ r ≡ textCall (now (input .entry)) (now (text .entry)) (now (answer .entry)) .number ⌝ }
-    ensures text { λ _. ⌜ now (text .exit) ≡ textCall (now (input .entry)) (now (text .entry)) (now (answer .entry)) .text ⌝ }
+    ensures text { λ _. ⌜ now (text .exit) ≡ textCall (now (input .entry)) (now (text .entry)) (now (answer .entry)) .buffer ⌝ }
     ensures area { λ _. ⌜ now (answer .exit) ≡ textCall (now (input .entry)) (now (text .entry)) (now (answer .entry)) .area ⌝ }
-    ensures reads { λ r. ⌜ (r ≡ 0 → textIn (now (text .exit)) (now (answer .exit)) ≡ programText (now (input .entry))) ⌝ }
+    ensures reads { λ r. ⌜ (r ≡ 0 → lentIn (now (text .exit)) (now (answer .exit)) ≡ programText (now (input .entry))) ⌝ }
     ensures reasons { λ _. ⌜ ReasonsTold (inputParameters (now (input .entry))) (read (inputSheet (now (input .entry)))) ⌝ }
 {
     if answer.len() < LENGTH_SIZE {
@@ -64,4 +71,28 @@ pub extern "C" fn pumdalin_text(input: &[u8], text: &mut [u8], answer: &mut [u8]
         let length = program_text(input, &mut buffer);
         store_text(&buffer[..length], text, answer)
     }
+}
+
+// The sheet with every kind 2 turned into kind 6, in the buffer that the caller lends, and its length in the area.
+#[no_mangle]
+pub extern "C" fn pumdalin_with_skips(sheet: &[u8], target: &mut [u8], answer: &mut [u8]) -> u32
+    ensures number { λ r. ⌜ r ≡ withSkipsCall (now (sheet .entry)) (now (target .entry)) (now (answer .entry)) .number ⌝ }
+    ensures sheet { λ _. ⌜ now (target .exit) ≡ withSkipsCall (now (sheet .entry)) (now (target .entry)) (now (answer .entry)) .buffer ⌝ }
+    ensures area { λ _. ⌜ now (answer .exit) ≡ withSkipsCall (now (sheet .entry)) (now (target .entry)) (now (answer .entry)) .area ⌝ }
+    ensures same { λ r. ⌜ (r ≡ 0 → SameSheet (now (sheet .entry)) (lentIn (now (target .exit)) (now (answer .exit)))) ⌝ }
+    ensures turned { λ r. ⌜ (r ≡ 0 → Turned true withoutSkips (now (sheet .entry)) (lentIn (now (target .exit)) (now (answer .exit)))) ⌝ }
+{
+    store_sheet(sheet, true, target, answer)
+}
+
+// The sheet with every kind 6 turned into kind 2, in the buffer that the caller lends, and its length in the area.
+#[no_mangle]
+pub extern "C" fn pumdalin_without_skips(sheet: &[u8], target: &mut [u8], answer: &mut [u8]) -> u32
+    ensures number { λ r. ⌜ r ≡ withoutSkipsCall (now (sheet .entry)) (now (target .entry)) (now (answer .entry)) .number ⌝ }
+    ensures sheet { λ _. ⌜ now (target .exit) ≡ withoutSkipsCall (now (sheet .entry)) (now (target .entry)) (now (answer .entry)) .buffer ⌝ }
+    ensures area { λ _. ⌜ now (answer .exit) ≡ withoutSkipsCall (now (sheet .entry)) (now (target .entry)) (now (answer .entry)) .area ⌝ }
+    ensures same { λ r. ⌜ (r ≡ 0 → SameSheet (now (sheet .entry)) (lentIn (now (target .exit)) (now (answer .exit)))) ⌝ }
+    ensures turned { λ r. ⌜ (r ≡ 0 → Turned false withSkips (now (sheet .entry)) (lentIn (now (target .exit)) (now (answer .exit)))) ⌝ }
+{
+    store_sheet(sheet, false, target, answer)
 }

@@ -17,7 +17,7 @@ use Rattle.layout.proofs.Storing.{read-back, store-next, stored-at, sto
 -- ---- rows
 
 abbrev pub blankRow : Row
-blankRow = record { role = 0; first = 0; second = 0; end = 0; enclosing = 0; frame = 0; depth = 0; loops = 0; offset = 0 }
+blankRow = record { role = 0; first = 0; second = 0; end = 0; enclosing = 0; frame = 0; depth = 0; loops = 0; offset = 0; skip = 0 }
 
 row-width : (r : Row) → length (rowNumbers r) ≡ rowWidth
 unfolding rowNumbers

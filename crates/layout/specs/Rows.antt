@@ -1,9 +1,9 @@
 -- Rows: what the reader says of each record, as numbers, and the numbers read by position.
 use mathlib.Core.List.{List, [], _∷_}
-use Prim.Native.Nat.{ℕ, _+_, _*_, _-_, _%_, min}
+use Prim.Native.Nat.{ℕ, zero, suc, _+_, _*_, _-_, _%_, min}
 use lib.ListN.{getD}
 use Rattle.meaning.specs.Limits.{recordLimit, depthLimit, openLimit}
-use Rattle.meaning.specs.Record.{Kind, workKind, loopKind, endKind, choiceKind, nextArmKind, Record, workRecord, loopRecord, endRecord, choiceRecord, nextArmRecord, kind}
+use Rattle.meaning.specs.Record.{Kind, workKind, loopKind, endKind, choiceKind, nextArmKind, skipCycles, Record, workRecord, loopRecord, endRecord, choiceRecord, nextArmRecord, kind}
 use Rattle.layout.specs.declared.rows.Row.{Row}
 use Rattle.layout.specs.Loops.{loopLimit}
 
@@ -21,7 +21,7 @@ roleNumber nextArmRole = 4
 -- the role of a kind's records
 unfoldable pub roleOfKind : Kind → Role
 roleOfKind workKind = straightRole
-roleOfKind loopKind = loopRole
+roleOfKind (loopKind hasSkip) = loopRole
 roleOfKind endKind = endRole
 roleOfKind choiceKind = choiceRole
 roleOfKind nextArmKind = nextArmRole
@@ -44,16 +44,24 @@ secondCost endRecord = 0
 secondCost choiceRecord = 0
 secondCost nextArmRecord = 0
 
+-- what a loop costs where it makes no trip
+unfoldable pub skipCost : Record → ℕ
+skipCost (workRecord least most) = 0
+skipCost (loopRecord l) = skipCycles l
+skipCost endRecord = 0
+skipCost choiceRecord = 0
+skipCost nextArmRecord = 0
+
 -- ---- the numbers of a row
 
 abbrev pub rowWidth : ℕ
-rowWidth = 9
+rowWidth = 10
 
 abbrev pub rowsLength : ℕ
 rowsLength = recordLimit * rowWidth
 
 unfoldable pub rowNumbers : Row → List ℕ
-rowNumbers r = r .role ∷ r .first ∷ r .second ∷ r .end ∷ r .enclosing ∷ r .frame ∷ r .depth ∷ r .loops ∷ r .offset ∷ []
+rowNumbers r = r .role ∷ r .first ∷ r .second ∷ r .end ∷ r .enclosing ∷ r .frame ∷ r .depth ∷ r .loops ∷ r .offset ∷ r .skip ∷ []
 
 -- where the row of the record with this number begins
 abbrev pub rowFrom : ℕ → ℕ
@@ -75,9 +83,14 @@ module _ (rows : List ℕ) (number : ℕ) where
   abbrev pub secondAt : ℕ
   secondAt = numberIn rows number 2
 
+  -- what a loop costs where it makes no trip
+  abbrev pub skipAt : ℕ
+  skipAt = numberIn rows number 9
+
   -- what entering a loop costs, where it makes so many trips
   unfoldable pub entryCostAt : ℕ → ℕ
-  entryCostAt trips = firstAt
+  entryCostAt zero = skipAt
+  entryCostAt (suc trips) = firstAt
 
   -- the number of the end of a loop or choice
   abbrev pub endAt : ℕ

@@ -1,4 +1,4 @@
-// Rows: what the reader says of each record, nine numbers a record.
+// Rows: what the reader says of each record, ten numbers a record.
 ghost use mathlib.Core.Path.{_≡_};
 ghost use Prim.Native.Nat.{_<_};
 ghost use lib.Seq.{paste};
@@ -25,7 +25,7 @@ pub const NEXT_ARM: u16 = 4;
 
 // Of one record: its role; its costs, least and most of straight work or start and step of a loop; the number of its end; the number of
 // the record that it stands in, plus 1; how many records are open around it, and how many of these are loops; how many loops stand
-// before it; its offset in the sheet.
+// before it; its offset in the sheet; what a loop costs where it makes no trip.
 pub struct Row {
     pub role: u16,
     pub first: u16,
@@ -36,9 +36,10 @@ pub struct Row {
     pub depth: u16,
     pub loops: u16,
     pub offset: u16,
+    pub skip: u16,
 }
 
-const ROW_WIDTH: usize = 9;
+const ROW_WIDTH: usize = 10;
 
 const ROLE: usize = 0;
 
@@ -57,6 +58,8 @@ const DEPTH: usize = 6;
 const LOOPS: usize = 7;
 
 const OFFSET: usize = 8;
+
+const SKIP: usize = 9;
 
 pub const ROW_NUMBERS: usize = MAX_RECORDS * ROW_WIDTH;
 
@@ -84,6 +87,7 @@ pub fn put_row(rows: &mut Rows, number: usize, row: Row)
         row.depth,
         row.loops,
         row.offset,
+        row.skip,
     ];
     put(rows, number % MAX_RECORDS * ROW_WIDTH, &values);
 }
@@ -112,6 +116,9 @@ pub fn most_at(rows: &Rows, number: usize) -> u64
 pub fn entry_cost_at(rows: &Rows, number: usize, trips: u64) -> u64
     ensures { λ r. ⌜ r ≡ entryCostAt (now (rows .entry)) number trips ⌝ }
 {
+    if trips == 0 {
+        return wide(column_at(rows, number, SKIP));
+    }
     wide(column_at(rows, number, FIRST))
 }
 

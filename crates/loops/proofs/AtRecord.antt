@@ -7,10 +7,10 @@ use Prim.Native.Nat.{_+_, _<_, suc, zero, ℕ, _≤_}
 use native.Mathlib.Omega.{arith}
 use borrow.Author.Tests.{ltb-false, ltb-true}
 use lib.ListN.{List·getD-eq-default, drop, getD, length, length-take, take}
-use lib.Dec.{T, ltb}
+use lib.Dec.{T, ltb, eqb}
 use lib.Seq.{length-take-le}
 use lib.IntN.{ℤ}
-use Rattle.meaning.specs.Record.{Loop, Open, Record, fieldsInRange, kind, loopDepth, loopKind, decodeRecord, openChoice, openLoop, sheetLength}
+use Rattle.meaning.specs.Record.{Loop, isGiven, Open, Record, fieldsInRange, kind, kindNumber, loopDepth, loopKind, decodeRecord, openChoice, openLoop, sheetLength}
 use Rattle.meaning.specs.Record.{choiceRecord, endRecord, loopRecord, nextArmRecord, workRecord}
 use Rattle.meaning.specs.Range.{Range}
 use Rattle.meaning.specs.Reader.{bodyAt}
@@ -19,7 +19,8 @@ use Rattle.meaning.proofs.Accepted.{InPlace, LoopInRange, loop-in-range}
 use Rattle.meaning.proofs.RecordReader.{StandsAt}
 use Rattle.form.proofs.FormLaws.{NumbersWithin, RangesWithin}
 use Rattle.sheet.specs.Sheets.{recordsOf}
-use Rattle.sheet.proofs.SheetRecords.{around, few-records, one-more, record-stands, records-in-place}
+use Rattle.sheet.proofs.SheetRecords.{around, few-records, one-more, record-stands, records-in-place, kind-there}
+use Rattle.records.proofs.ByKind.{skip-by-number}
 use Rattle.layout.specs.declared.rows.Row.{Row}
 use Rattle.layout.specs.Rows.{loopAt, offsetAt, roleAt, roleNumber, roleOf, roleOfKind}
 use Rattle.layout.specs.Loops.{loopLimit}
@@ -221,8 +222,12 @@ module _ (sheet : List ℕ) (ps : List ℤ) where
         (loop-in-range opensAt l (in-range-of l (drop (suc n) rs) opensAt here), loop-in-place l (drop (suc n) rs) opensAt here .0)
 
     -- what is read of a loop's record
-    pub source-is : (l : Loop) → current ≡ loopRecord l → (at : ℕ) → at ≡ sheetLength (take n rs) → decodeRecord loopKind (bodyAt sheet at) ≡ loopRecord l
+    pub source-is : (l : Loop) → current ≡ loopRecord l → (at : ℕ) → at ≡ sheetLength (take n rs) →
+        decodeRecord (loopKind (eqb (getD sheet at 0) 6)) (bodyAt sheet at) ≡ loopRecord l
     unfolding kind
     source-is l e at o =
         let stands = subst (λ (m : ℕ). StandsAt sheet m current) (sym o) (record-stands sheet n there) in
-        subst (λ (r : Record). decodeRecord (kind r) (bodyAt sheet at) ≡ r) e (stands .decoded)
+        let byte : getD sheet at 0 ≡ kindNumber (kind (loopRecord l)) = ap (λ (m : ℕ). getD sheet m 0) o ∙ kind-there sheet n there ∙ ap (λ (r : Record). kindNumber (kind r)) e in
+        ap (λ (m : ℕ). decodeRecord (loopKind (eqb m 6)) (bodyAt sheet at)) byte
+        ∙ ap (λ (s : Bool). decodeRecord (loopKind s) (bodyAt sheet at)) (skip-by-number (isGiven (l .skip)))
+        ∙ subst (λ (r : Record). decodeRecord (kind r) (bodyAt sheet at) ≡ r) e (stands .decoded)

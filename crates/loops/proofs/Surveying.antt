@@ -9,7 +9,7 @@ use native.Mathlib.Omega.{arith}
 use borrow.Author.Tests.{le-ltb, lt-ltb}
 use lib.ListN.{drop, drop-of-length-le, getD, length, length-map, replicate, take}
 use lib.Seq.{drop-cons, paste, take-suc}
-use lib.Dec.{ltb}
+use lib.Dec.{ltb, eqb}
 use lib.IntN.{ℤ}
 use Rattle.meaning.specs.Form.{Form}
 use Rattle.meaning.specs.Record.{Loop, Open, Record, endRecord, kind, kindNumber, loopDepth, loopRecord, openLoop, sheetLength, decodeRecord, loopKind}
@@ -227,7 +227,7 @@ module _ {sheet : List ℕ} {count : ℕ} {ps : List ℤ} {words₀ facts₀ wor
 
     -- a loop, from what is read of its record
     module _ (four : FourSmall ps) {role : ℕ} (roleIs : role ≡ roleAt rows n) (isLoop : role ≡ 1) {at : ℕ} (atIs : at ≡ offsetAt rows n) {forms : Forms}
-        (formsAre : (l : Loop) → decodeRecord loopKind (bodyAt sheet at) ≡ loopRecord l → FormsOf l ps forms) where
+        (formsAre : (l : Loop) → decodeRecord (loopKind (eqb (getD sheet at 0) 6)) (bodyAt sheet at) ≡ loopRecord l → FormsOf l ps forms) where
       found : (l : Loop) × (this ≡ loopRecord l)
       found = loop-there this (sym (surveying-role roleIs) ∙ isLoop)
 

@@ -1,13 +1,17 @@
 // What the parameters make of one loop: its words, its ceiling, and the ranges, starts and pushes inside it.
 ghost use mathlib.Core.Path.{_≡_};
 ghost use mathlib.Core.List.{List};
+ghost use mathlib.Core.Bool.{not};
 ghost use Prim.Native.Nat.{_<_};
+ghost use lib.Dec.{eqb};
+ghost use lib.ListN.{getD};
 ghost use Rattle.whole.specs.Integer as Z;
 ghost use Rattle.meaning.specs.Limits.{depthLimit};
 ghost use Rattle.meaning.specs.Record as M;
-ghost use Rattle.meaning.specs.Record.{Open, decodeRecord, loopKind};
+ghost use Rattle.meaning.specs.Record.{Open, decodeRecord, loopKind, skipCycles};
 ghost use Rattle.meaning.specs.Reader.{bodyAt};
 ghost use Rattle.meaning.specs.Time.{tripCount};
+ghost use Rattle.meaning.specs.Closed.{askedDifference};
 ghost use Rattle.form.specs.Forms.{wideForm};
 ghost use Rattle.sheet.specs.Nestings.{nestingOf};
 ghost use Rattle.layout.specs.Loops.{wordOf};
@@ -15,11 +19,13 @@ ghost use Rattle.loops.specs.Enclosing as S;
 ghost use Rattle.records.specs.View.{loopOf};
 ghost use Rattle.loops.specs.Forms.{FormsOf};
 ghost use Rattle.loops.specs.Reckoned.{pushWord, loopWords, ceilingWithin, enoughWithin, aroundWith, rowWith, pushesWith};
+use encoding::number::byte_at;
 use form::Form;
 use form::MAX_DEPTH;
 use form::Parameters;
 use form::PerLoop;
 use layout::differences::DIFFERENCE_WIDTH;
+use records::SKIP_LOOP;
 use records::loops::Loop;
 use sheet::head::body_at;
 use sheet::nesting::Nesting;
@@ -91,8 +97,25 @@ pub(crate) fn choice_depth(here: Nesting) -> usize
     depth
 }
 
-fn forms_of(source: Loop, parameters: Parameters) -> Forms
-    ensures { λ r. ⌜ FormsOf (loopOf source) parameters r ⌝ }
+// Whether a loop has a skip that differs from its start.
+fn skip_differs(source: Loop, skips: bool) -> bool
+    ensures { λ r. ⌜ r ≡ not (eqb (skipCycles (loopOf skips source)) (source .start)) ⌝ }
+{
+    skips && source.skip != source.start
+}
+
+// The smallest D that closing a loop around it asks.
+fn asked_difference(source: Loop, skips: bool) -> i64
+    ensures { λ r. ⌜ r ≡ askedDifference (loopOf skips source) ⌝ }
+{
+    if skip_differs(source, skips) {
+        return 0;
+    }
+    -(source.stride as i64)
+}
+
+fn forms_of(source: Loop, skips: bool, parameters: Parameters) -> Forms
+    ensures { λ r. ⌜ FormsOf (loopOf skips source) parameters r ⌝ }
 {
     let packed_lower = source.lower;
     let packed_upper = source.upper;
@@ -102,11 +125,11 @@ fn forms_of(source: Loop, parameters: Parameters) -> Forms
     let lower = low.fold(parameters);
     let upper = up.fold(parameters);
     let difference = apart.fold(parameters);
-    let signed = source.stride as i64;
+    let asked = asked_difference(source, skips);
     Forms {
         stride: source.stride as u64,
-        signed: signed,
-        asked: -signed,
+        signed: source.stride as i64,
+        asked: asked,
         lower: lower,
         upper: upper,
         difference: difference,
@@ -115,10 +138,12 @@ fn forms_of(source: Loop, parameters: Parameters) -> Forms
 
 // Of the loop whose record stands at an offset.
 pub(crate) fn forms_at(sheet: &[u8], at: usize, parameters: Parameters) -> Forms
-    ensures { λ r. ⌜ ((l : M.Loop) → decodeRecord loopKind (bodyAt (now (sheet .entry)) at) ≡ M.loopRecord l → FormsOf l parameters r) ⌝ }
+    ensures { λ r. ⌜ ((l : M.Loop) → decodeRecord (loopKind (eqb (getD (now (sheet .entry)) at 0) 6)) (bodyAt (now (sheet .entry)) at) ≡ M.loopRecord l →
+        FormsOf l parameters r) ⌝ }
 {
-    let source = Loop::decode(body_at(sheet, at));
-    forms_of(source, parameters)
+    let skips = byte_at(sheet, at) == SKIP_LOOP;
+    let source = Loop::decode(body_at(sheet, at), skips);
+    forms_of(source, skips, parameters)
 }
 
 // The push on D of the loop with m loops around it; 0 where none is there.

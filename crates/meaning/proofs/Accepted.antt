@@ -1,7 +1,7 @@
 -- What the reader accepts: records in place, with fields in range, at most recordLimit, whose tree has just these records and is sound.
 use mathlib.Core.Path.{_≡_, refl, sym, ap, _∙_, subst}
 use mathlib.Core.List.{List, [], _∷_, _++_, append-assoc}
-use mathlib.Core.Bool.{_&&_}
+use mathlib.Core.Bool.{true, false, _&&_}
 use mathlib.Core.Option.{some}
 use Prim.Native.Nat.{ℕ, zero, suc, _+_, _≤_}
 use native.Mathlib.Omega.{arith}
@@ -11,9 +11,9 @@ use Rattle.meaning.specs.Limits.{recordLimit, depthLimit, openLimit, cos
 use Rattle.meaning.specs.Number.{hasPattern}
 use Rattle.meaning.specs.Form.{Form, allZero, factorsFit, formInRange}
 use Rattle.meaning.specs.Record.{Kind, workKind, loopKind, endKind, choiceKind, nextArmKind, kindOf, bodyLength}
-use Rattle.meaning.specs.Record.{Loop, Record, workRecord, loopRecord, endRecord, choiceRecord, nextArmRecord, kind, recordLength, decodeRecord}
+use Rattle.meaning.specs.Record.{Loop, isGiven, skipWhere, skipCycles, Record, workRecord, loopRecord, endRecord, choiceRecord, nextArmRecord, kind, recordLength, decodeRecord}
 use Rattle.meaning.specs.Record.{Open, openLoop, openChoice, loopDepth, fieldsInRange, openAfter}
-use Rattle.meaning.specs.Reader.{Result, ok, orRefuse, Accepted, accept, readRecord, endOfSheet, readFrom, read}
+use Rattle.meaning.specs.Reader.{readFromOf, readRecordOf, Result, ok, orRefuse, Accepted, accept, readRecord, endOfSheet, readFrom, read}
 use Rattle.meaning.specs.Tree.{Block, Arms, work, loop, choice, lastArm, arm, Segments, final, beforeEnd, beforeNextArm, onFirst}
 use Rattle.meaning.specs.Tree.{takeBody, takeArms, segments, firstSegment, tree, records, armsRecords, height, armsHeight}
 use Rattle.meaning.specs.Time.{strideSize, entryCost}
@@ -31,9 +31,10 @@ pub record IsAccepted (os : List Open) (kindByte : ℕ) (bytes : List ℕ) (r : 
   pub leavesOpen : openAfter os r ≡ some after
 
 pub kind-decodeRecord : (k : Kind) (body : List ℕ) → kind (decodeRecord k body) ≡ k
-unfolding kind decodeRecord
+unfolding kind isGiven decodeRecord skipWhere
 kind-decodeRecord workKind body = refl
-kind-decodeRecord loopKind body = refl
+kind-decodeRecord (loopKind false) body = refl
+kind-decodeRecord (loopKind true) body = refl
 kind-decodeRecord endKind body = refl
 kind-decodeRecord choiceKind body = refl
 kind-decodeRecord nextArmKind body = refl
@@ -55,7 +56,7 @@ accept-in-place at os after r t e =
 
 pub readRecord-ok : (at : ℕ) (os : List Open) (k : ℕ) (bytes : List ℕ) (a : Accepted) → readRecord at os k bytes ≡ ok a →
     IsAccepted os k bytes (a .accepted) (a .after)
-unfolding readRecord
+unfolding readRecordOf
 readRecord-ok at os k bytes a e =
     let n = andThen-ok (orRefuse (kindOf k) 2 at) _ a e in
     let c : Kind = n .0 in
@@ -90,7 +91,7 @@ pub record FirstRead (left at : ℕ) (os : List Open) (bytes : List ℕ) (r : Re
 
 pub readFrom-first : (left at : ℕ) (os : List Open) (bytes : List ℕ) (r : Record) (rs : List Record) → readFrom left at os bytes ≡ ok (r ∷ rs) →
     FirstRead left at os bytes r rs
-unfolding readFrom
+unfolding readFromOf
 readFrom-first zero at os [] r rs e = nil-is-not-cons (endOfSheet-ok at os [] (r ∷ rs) e .1)
 readFrom-first zero at os (k ∷ bytes) r rs e = refused-is-not-ok e
 readFrom-first (suc left) at os [] r rs e = nil-is-not-cons (endOfSheet-ok at os [] (r ∷ rs) e .1)
@@ -115,7 +116,7 @@ readFrom-first (suc left) at os (k ∷ bytes) r rs e =
 
 -- where no record is read, no byte is left and nothing is open
 pub readFrom-none : (left at : ℕ) (os : List Open) (bytes : List ℕ) → readFrom left at os bytes ≡ ok [] → (os ≡ []) × (bytes ≡ [])
-unfolding readFrom
+unfolding readFromOf
 readFrom-none zero at os [] e = (endOfSheet-ok at os [] [] e .0, refl)
 readFrom-none zero at os (k ∷ bytes) e = refused-is-not-ok e
 readFrom-none (suc left) at os [] e = (endOfSheet-ok at os [] [] e .0, refl)
@@ -173,6 +174,7 @@ pub record FormInRange (depth : ℕ) (f : Form) : Type 0 where
 
 pub record LoopInRange (depth : ℕ) (l : Loop) : Type 0 where
   pub startSmall : l .start ≤ costLimit
+  pub skipSmall : skipCycles l ≤ costLimit
   pub stepSmall : l .step ≤ costLimit
   pub moves : 1 ≤ l .stride
   pub strideSmall : l .stride ≤ strideLimit
@@ -211,13 +213,16 @@ loop-in-range os l t =
     let s = leb (l .stride) strideLimit in
     let f = formInRange (loopDepth os) (l .lower) in
     let g = formInRange (loopDepth os) (l .upper) in
-    let t5 = T-and (a && b && m && s && f) g t in
+    let k = leb (skipCycles l) costLimit in
+    let t6 = T-and (a && b && m && s && f && g) k t in
+    let t5 = T-and (a && b && m && s && f) g (t6 .0) in
     let t4 = T-and (a && b && m && s) f (t5 .0) in
     let t3 = T-and (a && b && m) s (t4 .0) in
     let t2 = T-and (a && b) m (t3 .0) in
     let t1 = T-and a b (t2 .0) in
     record {
       startSmall = leb→le (l .start) costLimit (t1 .0);
+      skipSmall = leb→le (skipCycles l) costLimit (t6 .1);
       stepSmall = leb→le (l .step) costLimit (t1 .1);
       moves = leb→le 1 (l .stride) (t2 .1);
       strideSmall = leb→le (l .stride) strideLimit (t3 .1);
@@ -232,8 +237,12 @@ work-in-range os least most t =
     record { ordered = leb→le least most (b .0); mostSmall = leb→le most costLimit (b .1) }
 
 loop-sound : (depth : ℕ) (l : Loop) → LoopInRange depth l → LoopSound l
-unfolding strideSize entryCost
-loop-sound depth l i = record { moves = i .moves; entrySmall = λ trips. i .startSmall; stepSmall = i .stepSmall }
+unfolding strideSize
+loop-sound depth l i = record { moves = i .moves; entrySmall = entry; stepSmall = i .stepSmall }
+  where
+    entry : (trips : ℕ) → entryCost l trips ≤ costLimit
+    entry zero = unfold entryCost in i .skipSmall
+    entry (suc n) = unfold entryCost in i .startSmall
 
 -- ---- the segments of records in place
 

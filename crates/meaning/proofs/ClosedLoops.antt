@@ -27,6 +27,7 @@ use Rattle.meaning.specs.Range.{Range, range, indexRange, innerRanges, d
 use Rattle.meaning.specs.Closed.{pushOwn, pushInner, strideDivides, askedDifference, closable, closed}
 use Rattle.meaning.specs.Report.{allClosed, loopReports}
 use Rattle.meaning.specs.ClosedSum.{closedSum}
+use Rattle.meaning.proofs.Skips.{asked-stride, entry-asked}
 use Rattle.meaning.proofs.Sound.{Sound}
 use Rattle.meaning.proofs.Trips.{Inside, firstSums, tripTime}
 use Rattle.meaning.proofs.Ranges.{inside-length, value-inside, trips-inside}
@@ -77,23 +78,30 @@ module _ (ps : List ℤ) where
   unfoldable pub signedTrips : Loop → List ℤ → ℤ
   signedTrips l indexes = sucℤ (floorDivide (value ps (difference l) indexes) (strideSize l))
 
-  -- it is not, where the smallest D is at least minus the stride
-  pub trips-signed : (l : Loop) (ranges : List Range) (indexes : List ℤ) → T (leZ (askedDifference l) (differenceRange ps l ranges .lo)) →
-      Inside indexes ranges →
-      pos (trips ps l indexes) ≡ signedTrips l indexes
-  unfolding signedTrips trips tripCount differenceRange askedDifference
-  trips-signed l ranges indexes smallest inside =
+  -- where the smallest D is as large as closing asks, D is
+  asked-within : (l : Loop) (ranges : List Range) (indexes : List ℤ) → T (leZ (askedDifference l) (differenceRange ps l ranges .lo)) →
+      Inside indexes ranges → T (leZ (askedDifference l) (value ps (difference l) indexes))
+  unfolding differenceRange
+  asked-within l ranges indexes smallest inside =
       let d : ℤ = value ps (difference l) indexes in
       let lo : ℤ = range ps (difference l) ranges .lo in
       let bound : ℤ = askedDifference l in
-      let above = AtMost-trans bound lo d (leZ→AtMost bound lo smallest) (value-inside ps (difference l) ranges indexes inside .low) in
-      count-exact d (strideSize l) (AtMost→leZ bound d above)
+      AtMost→leZ bound d (AtMost-trans bound lo d (leZ→AtMost bound lo smallest) (value-inside ps (difference l) ranges indexes inside .low))
+
+  -- so that floor(D ÷ stride) + 1 is not negative
+  pub trips-signed : (l : Loop) (ranges : List Range) (indexes : List ℤ) → T (leZ (askedDifference l) (differenceRange ps l ranges .lo)) →
+      Inside indexes ranges →
+      pos (trips ps l indexes) ≡ signedTrips l indexes
+  unfolding signedTrips trips tripCount
+  trips-signed l ranges indexes smallest inside =
+      let d : ℤ = value ps (difference l) indexes in
+      count-exact d (strideSize l) (asked-stride l d (asked-within l ranges indexes smallest inside))
 
   -- and entering the loop costs the same whatever its trips are
   entry-fixed : (l : Loop) (ranges : List Range) (indexes : List ℤ) → T (leZ (askedDifference l) (differenceRange ps l ranges .lo)) →
-      Inside indexes ranges → entryCost l (trips ps l indexes) ≡ entryCost l 1
-  unfolding entryCost
-  entry-fixed l ranges indexes smallest inside = refl
+      Inside indexes ranges → entryCost l (trips ps l indexes) ≡ l .start
+  unfolding trips
+  entry-fixed l ranges indexes smallest inside = entry-asked l (value ps (difference l) indexes) (asked-within l ranges indexes smallest inside)
 
   -- a move of the counters adds to it what it adds to D, divided by the stride
   signedTrips-affine : (l : Loop) → 1 ≤ strideSize l → (indexesAt : List ℤ → List ℤ) (pushes : List (List ℤ)) (depth : ℕ) → Follows indexesAt pushes depth →
@@ -218,7 +226,7 @@ module _ (ps : List ℤ) where
         let trip = polynomial-⊕ inside (polynomial-fixed (exactly (l .step))) in
         let all = polynomial-loop l (sound .0 .moves) body ranges pushes indexesAt follows (tests .smallest) (tests .divided) trip in
         let after = polynomial-time rest (sound .2) ranges pushes indexesAt follows (tests .restClosable) in
-        let entry = polynomial-constant (λ indexes. figure (exactly (entryCost l (trips ps l indexes)))) (figure (exactly (entryCost l 1)))
+        let entry = polynomial-constant (λ indexes. figure (exactly (entryCost l (trips ps l indexes)))) (figure (exactly (l .start)))
         (λ indexes inside. ap (λ (n : ℕ). figure (exactly n)) (entry-fixed l ranges indexes (tests .smallest) inside)) in
         polynomial-⊕ (polynomial-⊕ entry (polynomial-le (omega arith) all)) (polynomial-le (omega arith) after)
     polynomial-time (choice arms rest) sound ranges pushes indexesAt follows t =

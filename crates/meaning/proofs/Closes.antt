@@ -8,12 +8,13 @@ use lib.Dec.{T, eqb, eqb-refl}
 use lib.ListN.{length}
 use Rattle.whole.specs.Integer.{divides}
 use Rattle.whole.proofs.Floor.{divides-quotient, quotient-divides}
-use Rattle.meaning.specs.Record.{Loop}
+use Rattle.meaning.specs.Record.{Loop, skipCycles}
 use Rattle.meaning.specs.Tree.{Block, Arms, empty, work, loop, choice, armsLoops}
 use Rattle.meaning.specs.Time.{difference, strideSize}
 use Rattle.meaning.specs.Range.{Range, innerRanges, rangesInside, differenceRange}
 use Rattle.meaning.specs.Closed.{push, pushOwn, pushInner, nestPushes, strideDivides, askedDifference, closable, closed}
 use Rattle.meaning.proofs.Logic.{T-and, and-T}
+use Rattle.meaning.proofs.Skips.{asked-stride, asked-skip, stride-asked}
 use Rattle.meaning.proofs.Closable.{closable-loop, loop-closable, closable-choice}
 
 -- the block has loop k, inside the loops between, outermost first; a loop in an arm is none of these
@@ -75,7 +76,7 @@ module _ (ps : List ℤ) where
   record Asked (b : Block) (ranges : List Range) (pushes : List (List ℤ)) : Type 0 where
     noLoopInArms : NoLoopInArms b
     smallest : (between : List Loop) (k : Loop) → Has b between k →
-        T (leZ (negℤ (pos (strideSize k))) (differenceRange ps k (rangesInside ps between ranges) .lo))
+        T (leZ (askedDifference k) (differenceRange ps k (rangesInside ps between ranges) .lo))
     around : (between : List Loop) (k : Loop) → Has b between k → EachDivided k between pushes
     inside : (outer : List Loop) (m : Loop) (inner : List Loop) (k : Loop) → Has b (outer ++ (m ∷ inner)) k →
         Divided k (nestPushes inner (pushOwn m (length (rangesInside ps outer ranges))))
@@ -91,7 +92,7 @@ module _ (ps : List ℤ) where
   }
 
   asked-closable : (b : Block) (ranges : List Range) (pushes : List (List ℤ)) → Asked b ranges pushes → T (closable ps b ranges pushes)
-  unfolding closable NoLoopInArms rangesInside EachDivided askedDifference
+  unfolding closable NoLoopInArms rangesInside EachDivided
   asked-closable empty ranges pushes a = tt
   asked-closable (work least most rest) ranges pushes a =
       asked-closable rest ranges pushes (asked-part (λ between k h. afterWork h) (a .noLoopInArms) a)
@@ -112,11 +113,14 @@ module _ (ps : List ℤ) where
       (asked-closable rest ranges pushes (asked-part (λ between k h. afterChoice h) (a .noLoopInArms .1) a))
 
   -- document 01: "A loop is closed when no choice inside it, at any depth, has a loop in an arm, directly or deeper, and each loop K inside it has
-  -- smallest D ≥ minus K's stride, and K's stride divides the push on K's D of that loop and of each loop between"
+  -- smallest D ≥ minus K's stride, and K's stride divides the push on K's D of that loop and of each loop between"; document 02: "Where skip and
+  -- start differ, an enclosing loop is closed only if the inner loop's smallest D is 0 or more"
   pub record ClosingAsked (l : Loop) (body : Block) (ranges : List Range) : Type 0 where
     pub noLoopInArms : NoLoopInArms body
     pub smallest : (between : List Loop) (k : Loop) → Has body between k →
         T (leZ (negℤ (pos (strideSize k))) (differenceRange ps k (rangesInside ps (l ∷ between) ranges) .lo))
+    pub skipping : (between : List Loop) (k : Loop) → Has body between k → ¬ (skipCycles k ≡ k .start) →
+        T (leZ (pos zero) (differenceRange ps k (rangesInside ps (l ∷ between) ranges) .lo))
     pub ofThatLoop : (between : List Loop) (k : Loop) → Has body between k → Divided k (nestPushes between (pushOwn l (length ranges)))
     pub ofLoopBetween : (outer : List Loop) (m : Loop) (inner : List Loop) (k : Loop) → Has body (outer ++ (m ∷ inner)) k →
         Divided k (nestPushes inner (pushOwn m (length (rangesInside ps (l ∷ outer) ranges))))
@@ -125,7 +129,7 @@ module _ (ps : List ℤ) where
   unfolding closed rangesInside EachDivided
   closes l body ranges a = asked-closable body (innerRanges ps l ranges) (pushOwn l (length ranges) ∷ []) (record {
     noLoopInArms = a .noLoopInArms;
-    smallest = a .smallest;
+    smallest = λ between k h. stride-asked k (differenceRange ps k (rangesInside ps (l ∷ between) ranges) .lo) (a .smallest between k h) (a .skipping between k h);
     around = λ between k h. (a .ofThatLoop between k h, tt);
     inside = a .ofLoopBetween;
   })
@@ -145,8 +149,8 @@ module _ (ps : List ℤ) where
 
   -- what is asked of a loop with none between
   own-tests : {b : Block} {k : Loop} → Has b [] k → (ranges : List Range) (pushes : List (List ℤ)) → T (closable ps b ranges pushes) →
-      T (leZ (negℤ (pos (strideSize k))) (differenceRange ps k ranges .lo)) × T (strideDivides k pushes)
-  unfolding closable askedDifference
+      T (leZ (askedDifference k) (differenceRange ps k ranges .lo)) × T (strideDivides k pushes)
+  unfolding closable
   own-tests (here {k} {body} {rest}) ranges pushes t = let tests = closable-loop ps k body rest ranges pushes t in (tests .smallest, tests .divided)
   own-tests (afterLoop {l} {k} {body} {rest} h) ranges pushes t = own-tests h ranges pushes (closable-loop ps l body rest ranges pushes t .restClosable)
   own-tests (afterWork h) ranges pushes t = own-tests h ranges pushes t
@@ -168,7 +172,7 @@ module _ (ps : List ℤ) where
   entered (afterChoice {arms} {k} {rest} h) ranges pushes t = entered h ranges pushes (closable-choice ps arms rest ranges pushes t .1)
 
   closable-smallest : (b : Block) (between : List Loop) (k : Loop) → Has b between k → (ranges : List Range) (pushes : List (List ℤ)) →
-      T (closable ps b ranges pushes) → T (leZ (negℤ (pos (strideSize k))) (differenceRange ps k (rangesInside ps between ranges) .lo))
+      T (closable ps b ranges pushes) → T (leZ (askedDifference k) (differenceRange ps k (rangesInside ps between ranges) .lo))
   unfolding rangesInside
   closable-smallest b [] k h ranges pushes t = own-tests h ranges pushes t .0
   closable-smallest b (l ∷ between) k h ranges pushes t =
@@ -202,7 +206,8 @@ module _ (ps : List ℤ) where
       let own : List (List ℤ) = pushOwn l (length ranges) ∷ [] in
       record {
         noLoopInArms = closable-arms body inner own t;
-        smallest = λ between k h. closable-smallest body between k h inner own t;
+        smallest = λ between k h. asked-stride k _ (closable-smallest body between k h inner own t);
+        skipping = λ between k h. asked-skip k _ (closable-smallest body between k h inner own t);
         ofThatLoop = λ between k h. closable-around body between k h inner own t .0;
         ofLoopBetween = λ outer m within k h. closable-inside body outer m within k h inner own t;
       }

@@ -1,10 +1,14 @@
 -- Unfolding `computes` unfolds every definition, so that a statement about a given sheet is computed.
 use Rattle.meaning.specs.Number.{unsigned, littleEndian, decodeSigned, encodeSigned, hasPattern, unsigned16, signed16, signed8}
 use Rattle.meaning.specs.Form.{formAt, formBytes, isZero, allZero, factorsFit, formInRange, value, subtract}
-use Rattle.meaning.specs.Record.{kindNumber, kindOf, bodyLength, kind, recordLength, decodeRecord, bodyBytes}
-use Rattle.meaning.specs.Record.{recordBytes, sheetBytes, sheetLength, loopDepth, fieldsInRange, openAfter}
-use Rattle.meaning.specs.Reader.{require, orRefuse, andThen, accept, readRecord, endOfSheet, readFrom, read, headOf, headAt, bodyOf, bodyAt}
-use Rattle.meaning.specs.Writer.{workFieldsZero, formZero, loopFieldsZero, foreignFieldsZero, recordOf, checkRecord, checkFrom, check, store, write}
+use Rattle.meaning.specs.Record.{kindNumber, kindOf, bodyLength, isGiven, skipWhere, skipOr, skipCycles, kind, recordLength, decodeRecord}
+use Rattle.meaning.specs.Record.{skipBytes, bodyBytes, recordBytes, sheetBytes, sheetLength, loopDepth, fieldsInRange, openAfter}
+use Rattle.meaning.specs.Reader.{require, orRefuse, andThen, accept, endOfSheet, readRecordOf, readFromOf, read, headOf, headAt, bodyOf, bodyAt}
+use Rattle.meaning.specs.Writer.{workFieldsZero, formZero, skipZero, loopFieldsZero, foreignFieldsZero, loopIn, recordOf, checkRecord, checkFrom}
+use Rattle.meaning.specs.Writer.{check, store, fitSheet, write}
+use Rattle.meaning.specs.Converter.{withSkip, withoutSkip, changeLoop, skipsStart, addSkips, dropSkips, recordsWithSkips, recordsWithoutSkips}
+use Rattle.meaning.specs.Converter.{convert, withSkips, withoutSkips}
+use Rattle.meaning.specs.ConverterCall.{convertCall, withSkipsCall, withoutSkipsCall}
 use Rattle.meaning.specs.Tree.{onFirst, takeBody, takeArms, segments, firstSegment, tree, records, armsRecords, loops, armsLoops, height, armsHeight}
 use Rattle.meaning.specs.Time.{difference, signedStride, strideSize, entryCost, tripCount, sumOver, trips, indexAt, innerIndexes, time, armsTime}
 use Rattle.meaning.specs.Run.{TripsRun, Run, ArmRun}
@@ -23,22 +27,25 @@ use Rattle.meaning.specs.Text.{text, lastDigit, digits, decimal}
 use Rattle.meaning.specs.ReasonLine.{unevenLineStart, reasonLine, reasonLines, numberAfter, numberAt, sameText, firstWithLine, readReason}
 use Rattle.meaning.specs.Program.{figuresLine, className, loopLine, reportLines, loopLines, refusedLine, answerText}
 use Rattle.meaning.specs.Program.{inputParameters, inputBudget, inputSheet, reportsOf, programText}
-use Rattle.meaning.specs.TextCall.{storeText, fitText, textCall, textIn}
+use Rattle.meaning.specs.Lent.{storeLent, lentIn}
+use Rattle.meaning.specs.TextCall.{fitText, textCall}
 use Rattle.meaning.proofs.Vocabulary.{hexDigit, hex, sheetReportsOf, stateAfter}
 use Rattle.whole.specs.Integer.{floorDivide}
 use Rattle.whole.specs.Newton.{choose, differences, newtonTerms, newtonSum}
 
 unfoldable pub computes : Unit {0}
 unfolding unsigned littleEndian decodeSigned encodeSigned hasPattern unsigned16 signed16 signed8 formAt formBytes isZero allZero factorsFit formInRange value
-    subtract kindNumber kindOf bodyLength kind recordLength decodeRecord bodyBytes recordBytes sheetBytes sheetLength loopDepth fieldsInRange openAfter require
-    orRefuse andThen accept readRecord endOfSheet readFrom read headOf headAt bodyOf bodyAt workFieldsZero formZero loopFieldsZero foreignFieldsZero recordOf
-    checkRecord checkFrom check store write onFirst takeBody takeArms segments firstSegment tree records armsRecords loops armsLoops height armsHeight
-    difference signedStride strideSize entryCost tripCount sumOver trips indexAt innerIndexes time armsTime TripsRun Run ArmRun scale addRange dotRange range
-    indexRange innerRanges differenceRange ceiling push pushOwn pushInner strideDivides askedDifference isClosed closable closed loopClass countOver visitedOf
-    visitedTrips visits armsVisits firstFailing choiceTests armsChoiceTests aroundWith unevenTests ownTests loopTests armsLoopTests closingTests reasonOf orElse
-    firstOverCeiling allClosed loopReports armsReports closedSum addAll loopSum addTrip firstState afterEnd addArm stateOf visitBegun andOn indexesOf rangesOf
-    enterLoop endTrip passRecord pass passFrom stage stages visitsBegun sheetReports checkCeilings accepted figuresOf checkVisits answer areaBytes storeAnswer
-    cCall figuresIn text lastDigit digits decimal unevenLineStart reasonLine reasonLines numberAfter numberAt sameText firstWithLine readReason figuresLine
-    className loopLine reportLines loopLines refusedLine answerText inputParameters inputBudget inputSheet reportsOf programText storeText fitText textCall textIn hexDigit
-    hex sheetReportsOf stateAfter floorDivide choose differences newtonTerms newtonSum
+    subtract kindNumber kindOf bodyLength isGiven skipWhere skipOr skipCycles kind recordLength decodeRecord skipBytes bodyBytes recordBytes sheetBytes
+    sheetLength loopDepth fieldsInRange openAfter require orRefuse andThen accept endOfSheet readRecordOf readFromOf read headOf headAt bodyOf bodyAt
+    workFieldsZero formZero skipZero loopFieldsZero foreignFieldsZero loopIn recordOf checkRecord checkFrom check store fitSheet write withSkip withoutSkip
+    changeLoop skipsStart addSkips dropSkips recordsWithSkips recordsWithoutSkips convert withSkips withoutSkips convertCall withSkipsCall withoutSkipsCall
+    onFirst takeBody takeArms segments firstSegment tree records armsRecords loops armsLoops height armsHeight difference signedStride strideSize entryCost
+    tripCount sumOver trips indexAt innerIndexes time armsTime TripsRun Run ArmRun scale addRange dotRange range indexRange innerRanges differenceRange
+    ceiling push pushOwn pushInner strideDivides askedDifference isClosed closable closed loopClass countOver visitedOf visitedTrips visits armsVisits
+    firstFailing choiceTests armsChoiceTests aroundWith unevenTests ownTests loopTests armsLoopTests closingTests reasonOf orElse firstOverCeiling allClosed
+    loopReports armsReports closedSum addAll loopSum addTrip firstState afterEnd addArm stateOf visitBegun andOn indexesOf rangesOf enterLoop endTrip
+    passRecord pass passFrom stage stages visitsBegun sheetReports checkCeilings accepted figuresOf checkVisits answer areaBytes storeAnswer cCall figuresIn
+    text lastDigit digits decimal unevenLineStart reasonLine reasonLines numberAfter numberAt sameText firstWithLine readReason figuresLine className
+    loopLine reportLines loopLines refusedLine answerText inputParameters inputBudget inputSheet reportsOf programText storeLent fitText textCall lentIn
+    hexDigit hex sheetReportsOf stateAfter floorDivide choose differences newtonTerms newtonSum
 computes = tt

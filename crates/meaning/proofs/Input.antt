@@ -12,7 +12,7 @@ use lib.Dec.{leb, ltb, leb→le, le→leb, ltb→lt, lt→ltb}
 use Rattle.meaning.specs.Limits.{recordLimit, bodyLimit, recordLengthLimit, constantHalf, budgetLimit, headerLength, inputLimit}
 use Rattle.meaning.specs.Number.{unsigned, decodeSigned, unsigned16, signed16}
 use Rattle.meaning.specs.Record.{Kind, kindOf, bodyLength, Record, kind, recordLength, decodeRecord, Open}
-use Rattle.meaning.specs.Reader.{Result, ok, require, orRefuse, andThen, Accepted, accept, readRecord, readFrom, read}
+use Rattle.meaning.specs.Reader.{readFromOf, readRecordOf, Result, ok, require, orRefuse, andThen, Accepted, accept, readRecord, readFrom, read}
 use Rattle.meaning.specs.Tree.{tree}
 use Rattle.meaning.specs.Report.{firstOverCeiling}
 use Rattle.meaning.specs.Answer.{sheetReports, checkCeilings, accepted, figuresOf, checkVisits, answer}
@@ -43,7 +43,7 @@ sheetLimit = inputLimit - headerLength
 
 module _ (n : ℕ) (bytes : List ℕ) (long : bodyLimit ≤ n) where
   readRecord-take : (at : ℕ) (os : List Open) (k : ℕ) → readRecord at os k bytes ≡ readRecord at os k (take n bytes)
-  unfolding readRecord
+  unfolding readRecordOf
   readRecord-take at os k = ap (andThen (orRefuse (kindOf k) 2 at)) (fun-ext (λ c. same c (bodyLength-bound c)))
     where
       same : (c : Kind) → bodyLength c ≤ bodyLimit → require (leb (bodyLength c) (length bytes)) 1 at (accept at os (decodeRecord c (take (bodyLength c) bytes)))
@@ -54,7 +54,7 @@ module _ (n : ℕ) (bytes : List ℕ) (long : bodyLimit ≤ n) where
           (sym (take-take (bodyLength c) n bytes (omega arith)))
 
 readFrom-take : (left n at : ℕ) (os : List Open) (bytes : List ℕ) → recordLengthLimit * left < n → readFrom left at os bytes ≡ readFrom left at os (take n bytes)
-unfolding readFrom
+unfolding readFromOf
 readFrom-take zero zero at os bytes h = absurd (omega arith)
 readFrom-take zero (suc n) at os [] h = refl
 readFrom-take zero (suc n) at os (k ∷ bytes) h = refl

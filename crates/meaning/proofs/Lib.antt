@@ -1,4 +1,5 @@
 pub mod Logic
+pub mod Skips
 pub mod Sound
 pub mod Trips
 pub mod Number
@@ -8,6 +9,8 @@ pub mod RoundTrip
 pub mod Raw
 pub mod Written
 pub mod Refusals
+pub mod SameLoops
+pub mod ConvertedRecords
 pub mod RecordReader
 pub mod Input
 pub mod Decimal
@@ -19,6 +22,10 @@ pub mod Closable
 pub mod Closes
 pub mod ClosedLoops
 pub mod Trees
+pub mod ConvertedTrees
+pub mod NewOffsets
+pub mod ConvertedReasons
+pub mod ConvertedReports
 pub mod Passes
 pub mod AddingUp
 pub mod Stages
@@ -33,7 +40,15 @@ pub mod ReasonConsequences
 pub mod FewVisits
 pub mod SmallFigures
 pub mod Answers
+pub mod ConvertedAnswers
+pub mod Lents
 pub mod TextCalls
+pub mod Converters
+pub mod WaysBack
+pub mod ConverterRefusals
+pub mod ConverterCalls
+pub mod FirstReaders
+pub mod ConverterConsequences
 pub mod Demands
 pub mod Consequences
 pub mod Computes

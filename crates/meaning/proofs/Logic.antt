@@ -3,6 +3,7 @@ use mathlib.Core.Path.{_≡_, refl, sym, ap, subst}
 use mathlib.Core.Bool.{Bool, true, false, cond, _&&_}
 use mathlib.Core.Option.{Option, none, some}
 use mathlib.Core.List.{List, [], _∷_}
+use mathlib.Core.Logic.{_⊎_, inl, inr}
 use Prim.Native.Nat.{ℕ}
 use native.Mathlib.Omega.{arith}
 use lib.Dec.{T}
@@ -55,6 +56,9 @@ ok-injective e = cc
 pub refused-number : {A : Type 0} {number place number′ place′ : ℕ} → _≡_ {A = Result A} (refused number place) (refused number′ place′) → number ≡ number′
 refused-number e = cc
 
+pub refused-place : {A : Type 0} {number place number′ place′ : ℕ} → _≡_ {A = Result A} (refused number place) (refused number′ place′) → place ≡ place′
+refused-place e = cc
+
 -- what an accepted result has passed; and what passes is accepted
 pub andThen-ok : {A B : Type 0} (r : Result A) (f : A → Result B) (b : B) → andThen r f ≡ ok b → (a : A) × (r ≡ ok a) × (f a ≡ ok b)
 unfolding andThen
@@ -71,9 +75,30 @@ unfolding orRefuse
 orRefuse-ok (some b) number place a e = let z : b ≡ a = cc in ap some z
 orRefuse-ok none number place a e = refused-is-not-ok e
 
+-- what a refusal has met
+pub andThen-refused : {A B : Type 0} (r : Result A) (f : A → Result B) (number place : ℕ) → andThen r f ≡ refused number place →
+    (r ≡ refused number place) ⊎ ((a : A) × (r ≡ ok a) × (f a ≡ refused number place))
+unfolding andThen
+andThen-refused (ok a) f number place e = inr (a, refl, e)
+andThen-refused (refused n p) f number place e = let z = refused-number e in let y = refused-place e in inl (λ t. refused (z t) (y t))
+
+pub require-refused : {A : Type 0} (c : Bool) (n p : ℕ) (r : Result A) (number place : ℕ) → require c n p r ≡ refused number place →
+    ((c ≡ false) × (number ≡ n) × (place ≡ p)) ⊎ (T c × (r ≡ refused number place))
+unfolding require
+require-refused true n p r number place e = inr (tt, e)
+require-refused false n p r number place e = inl (refl, sym (refused-number e), sym (refused-place e))
+
 pub andThen-yes : {A B : Type 0} {r : Result A} {a : A} (f : A → Result B) → r ≡ ok a → andThen r f ≡ f a
 unfolding andThen
 andThen-yes f e = ap (λ x. andThen x f) e
+
+pub andThen-no : {A B : Type 0} {r : Result A} {number place : ℕ} (f : A → Result B) → r ≡ refused number place → andThen r f ≡ refused number place
+unfolding andThen
+andThen-no f e = ap (λ x. andThen x f) e
+
+pub require-no : {A : Type 0} {c : Bool} (number place : ℕ) (r : Result A) → c ≡ false → require c number place r ≡ refused number place
+unfolding require
+require-no number place r e = ap (λ x. require x number place r) e
 
 pub require-yes : {A : Type 0} (c : Bool) (number place : ℕ) (r : Result A) → T c → require c number place r ≡ r
 unfolding require

@@ -1,20 +1,20 @@
 -- The writer's check accepts exactly the well-formed records: as the writer takes them, and as the reader reads what it writes.
 use mathlib.Core.Path.{_≡_, refl, sym, ap, _∙_, subst}
 use mathlib.Core.List.{List, [], _∷_, map}
-use mathlib.Core.Option.{some}
+use mathlib.Core.Option.{Option, none, some}
 use Prim.Native.Nat.{ℕ, suc, _+_}
 use native.Mathlib.Omega.{arith}
 use lib.IntN.{pos}
 use lib.ListN.{length, take, length-take, length-map}
 use lib.Seq.{take-all}
-use lib.Dec.{T, leb, leb→le, le→leb}
+use lib.Dec.{T, eqb, leb, leb→le, le→leb}
 use Rattle.meaning.specs.Limits.{recordLimit}
 use Rattle.meaning.specs.Form.{Form, isZero, allZero}
 use Rattle.meaning.specs.Record.{Kind, workKind, loopKind, endKind, choiceKind, nextArmKind, kindNumber, kindOf}
-use Rattle.meaning.specs.Record.{Loop, Record, workRecord, loopRecord, endRecord, choiceRecord, nextArmRecord, kind, recordLength, sheetBytes}
+use Rattle.meaning.specs.Record.{Loop, isGiven, skipWhere, skipOr, Record, workRecord, loopRecord, endRecord, choiceRecord, nextArmRecord, kind, recordLength, sheetBytes}
 use Rattle.meaning.specs.Record.{Open, fieldsInRange, openAfter}
 use Rattle.meaning.specs.Reader.{ok, orRefuse, Accepted, accept, endOfSheet, read}
-use Rattle.meaning.specs.Writer.{RawRecord, workFieldsZero, formZero, loopFieldsZero, foreignFieldsZero, recordOf, checkRecord, checkFrom, check}
+use Rattle.meaning.specs.Writer.{RawRecord, workFieldsZero, formZero, skipZero, loopFieldsZero, foreignFieldsZero, loopIn, recordOf, checkRecord, checkFrom, check}
 use Rattle.meaning.proofs.Logic.{andThen-ok, require-ok, andThen-yes, require-yes, orRefuse-yes}
 use Rattle.meaning.proofs.Accepted.{accept-ok, accept-in-place, endOfSheet-ok, InPlace, WellFormed, read-well-formed}
 use Rattle.meaning.proofs.RecordBytes.{kindOf-kindNumber}
@@ -25,37 +25,68 @@ use Rattle.meaning.proofs.RoundTrip.{read-as-written}
 unfoldable pub zeroForm : Form
 zeroForm = record { constant = pos 0; index = pos 0 ∷ pos 0 ∷ pos 0 ∷ []; parameter = pos 0 ∷ pos 0 ∷ pos 0 ∷ pos 0 ∷ [] }
 
-unfoldable pub zeroLoop : Loop
-zeroLoop = record { start = 0; step = 0; stride = 0; lower = zeroForm; upper = zeroForm }
+-- a record of a kind that has no fields of a loop
+unfoldable pub rawWithout : Kind → (least most : ℕ) → RawRecord
+rawWithout k least most = record {
+  kindByte = kindNumber k;
+  least = least;
+  most = most;
+  start = 0;
+  step = 0;
+  stride = 0;
+  lower = zeroForm;
+  upper = zeroForm;
+  skip = 0;
+}
 
 -- the fields that the record's kind does not have are zero
 unfoldable pub rawOf : Record → RawRecord
-rawOf (workRecord least most) = record { kindByte = kindNumber workKind; least = least; most = most; loopFields = zeroLoop }
-rawOf (loopRecord l) = record { kindByte = kindNumber loopKind; least = 0; most = 0; loopFields = l }
-rawOf endRecord = record { kindByte = kindNumber endKind; least = 0; most = 0; loopFields = zeroLoop }
-rawOf choiceRecord = record { kindByte = kindNumber choiceKind; least = 0; most = 0; loopFields = zeroLoop }
-rawOf nextArmRecord = record { kindByte = kindNumber nextArmKind; least = 0; most = 0; loopFields = zeroLoop }
+rawOf (workRecord least most) = rawWithout workKind least most
+rawOf (loopRecord l) = record {
+  kindByte = kindNumber (kind (loopRecord l));
+  least = 0;
+  most = 0;
+  start = l .start;
+  step = l .step;
+  stride = l .stride;
+  lower = l .lower;
+  upper = l .upper;
+  skip = skipOr (l .skip) 0;
+}
+rawOf endRecord = rawWithout endKind 0 0
+rawOf choiceRecord = rawWithout choiceKind 0 0
+rawOf nextArmRecord = rawWithout nextArmKind 0 0
 
 rawOf-kindByte : (r : Record) → rawOf r .kindByte ≡ kindNumber (kind r)
-unfolding rawOf kind
+unfolding rawOf rawWithout kind
 rawOf-kindByte (workRecord least most) = refl
 rawOf-kindByte (loopRecord l) = refl
 rawOf-kindByte endRecord = refl
 rawOf-kindByte choiceRecord = refl
 rawOf-kindByte nextArmRecord = refl
 
+loop-foreign : (l : Loop) (s : Option ℕ) → l .skip ≡ s → T (foreignFieldsZero (loopKind (isGiven s)) (rawOf (loopRecord l)))
+unfolding foreignFieldsZero workFieldsZero skipZero isGiven rawOf
+loop-foreign l none e = subst (λ (s : Option ℕ). T (eqb (skipOr s 0) 0)) (sym e) (unfold skipOr in tt)
+loop-foreign l (some n) e = tt
+
 rawOf-foreign : (r : Record) → T (foreignFieldsZero (kind r) (rawOf r))
-unfolding foreignFieldsZero workFieldsZero loopFieldsZero formZero isZero allZero rawOf zeroLoop zeroForm kind
+unfolding foreignFieldsZero workFieldsZero loopFieldsZero skipZero formZero isZero allZero rawOf rawWithout zeroForm kind
 rawOf-foreign (workRecord least most) = tt
-rawOf-foreign (loopRecord l) = tt
+rawOf-foreign (loopRecord l) = loop-foreign l (l .skip) refl
 rawOf-foreign endRecord = tt
 rawOf-foreign choiceRecord = tt
 rawOf-foreign nextArmRecord = tt
 
+skip-field : (s : Option ℕ) → skipWhere (isGiven s) (skipOr s 0) ≡ s
+unfolding skipWhere isGiven skipOr
+skip-field none = refl
+skip-field (some n) = refl
+
 recordOf-rawOf : (r : Record) → recordOf (kind r) (rawOf r) ≡ r
-unfolding recordOf rawOf kind
+unfolding recordOf loopIn rawOf rawWithout kind
 recordOf-rawOf (workRecord least most) = refl
-recordOf-rawOf (loopRecord l) = refl
+recordOf-rawOf (loopRecord l) = λ t. loopRecord (record { start = l .start; step = l .step; stride = l .stride; lower = l .lower; upper = l .upper; skip = skip-field (l .skip) t })
 recordOf-rawOf endRecord = refl
 recordOf-rawOf choiceRecord = refl
 recordOf-rawOf nextArmRecord = refl

@@ -1,6 +1,6 @@
 -- One record in bytes: a decoded body is written as it was, and a written body is decoded as it was.
 use mathlib.Core.Path.{_≡_, refl, sym, ap, _∙_, subst}
-use mathlib.Core.List.{List, [], _∷_, _++_, append-nil}
+use mathlib.Core.List.{List, [], _∷_, _++_, append-assoc}
 use mathlib.Core.Bool.{Bool, true, false, cond}
 use mathlib.Core.Option.{Option, none, some}
 use Prim.Native.Nat.{ℕ, zero, suc, _+_, _*_, _≤_, _<_, _^_}
@@ -8,15 +8,15 @@ use native.Mathlib.Nat.{add-zero}
 use native.Mathlib.Omega.{arith}
 use lib.IntN.{ℤ, pos}
 use lib.ListN.{length, getD, drop, length-append, length-map}
-use lib.Seq.{getD-drop, drop-at}
+use lib.Seq.{getD-drop, drop-at, drop-drop}
 use lib.Dec.{T, eqb, eqb→eq}
 use Rattle.whole.proofs.Elements.{table, elements}
 use Rattle.meaning.specs.Limits.{bodyLimit, recordLengthLimit, constantHalf, factorHalf, indexFactors, parameterFactors}
 use Rattle.meaning.specs.Number.{unsigned, littleEndian, decodeSigned, encodeSigned, hasPattern, unsigned16, signed16, signed8}
 use Rattle.meaning.specs.Form.{Form, formAt, formBytes, factorsFit}
 use Rattle.meaning.specs.Record.{Kind, workKind, loopKind, endKind, choiceKind, nextArmKind, kindNumber, kindOf, bodyLength}
-use Rattle.meaning.specs.Record.{Loop, Record, workRecord, loopRecord, endRecord, choiceRecord, nextArmRecord, kind, recordLength, sheetLength}
-use Rattle.meaning.specs.Record.{decodeRecord, bodyBytes, Open, loopDepth, fieldsInRange}
+use Rattle.meaning.specs.Record.{Loop, isGiven, skipWhere, skipOr, skipCycles, Record, workRecord, loopRecord, endRecord, choiceRecord, nextArmRecord, kind, recordLength, sheetLength}
+use Rattle.meaning.specs.Record.{decodeRecord, skipBytes, bodyBytes, Open, loopDepth, fieldsInRange}
 use Rattle.meaning.proofs.Logic.{T-and, none-is-not-some}
 use Rattle.meaning.proofs.Number.{Bytes, bytes-getD, length-littleEndian, unsigned-littleEndian, littleEndian-unsigned}
 use Rattle.meaning.proofs.Number.{unsigned-bound, decode-encode, encode-decode, encode-bound}
@@ -27,7 +27,8 @@ use Rattle.meaning.proofs.Accepted.{FormInRange, loop-in-range, work-in
 pub kindOf-kindNumber : (k : Kind) → kindOf (kindNumber k) ≡ some k
 unfolding kindOf kindNumber
 kindOf-kindNumber workKind = refl
-kindOf-kindNumber loopKind = refl
+kindOf-kindNumber (loopKind false) = refl
+kindOf-kindNumber (loopKind true) = refl
 kindOf-kindNumber endKind = refl
 kindOf-kindNumber choiceKind = refl
 kindOf-kindNumber nextArmKind = refl
@@ -44,13 +45,14 @@ kind-test n c o h k e = go (eqb n (kindNumber c)) refl e
 pub kindNumber-kindOf : (n : ℕ) (k : Kind) → kindOf n ≡ some k → kindNumber k ≡ n
 unfolding kindOf kindNumber
 kindNumber-kindOf n =
-    kind-test n workKind _ (kind-test n loopKind _ (kind-test n endKind _ (kind-test n choiceKind _ (kind-test n nextArmKind none
-    (λ k e. none-is-not-some e)))))
+    kind-test n workKind _ (kind-test n (loopKind false) _ (kind-test n endKind _ (kind-test n choiceKind _ (kind-test n nextArmKind _
+    (kind-test n (loopKind true) none (λ k e. none-is-not-some e))))))
 
 pub bodyLength-bound : (k : Kind) → bodyLength k ≤ bodyLimit
 unfolding bodyLength
 bodyLength-bound workKind = omega arith
-bodyLength-bound loopKind = omega arith
+bodyLength-bound (loopKind false) = omega arith
+bodyLength-bound (loopKind true) = omega arith
 bodyLength-bound endKind = omega arith
 bodyLength-bound choiceKind = omega arith
 bodyLength-bound nextArmKind = omega arith
@@ -102,10 +104,13 @@ module _ (body : List ℕ) (h : Bytes body) where
       ++ (signed8-byte (at + 5) t ∷ signed8-byte (at + 6) t ∷ signed8-byte (at + 7) t ∷ signed8-byte (at + 8) t ∷ [])
 
   pub bodyBytes-decodeRecord : (k : Kind) → length body ≡ bodyLength k → bodyBytes (decodeRecord k body) ≡ body
-  unfolding bodyBytes decodeRecord bodyLength
+  unfolding bodyBytes skipBytes decodeRecord skipWhere bodyLength
   bodyBytes-decodeRecord workKind e = (λ t. unsigned16-bytes 0 t ++ unsigned16-bytes 2 t) ∙ elements 4 body 0 e
-  bodyBytes-decodeRecord loopKind e =
-      (λ t. unsigned16-bytes 0 t ++ unsigned16-bytes 2 t ++ unsigned16-bytes 4 t ++ formAt-bytes 6 t ++ formAt-bytes 15 t) ∙ elements 24 body 0 e
+  bodyBytes-decodeRecord (loopKind false) e =
+      (λ t. unsigned16-bytes 0 t ++ unsigned16-bytes 2 t ++ unsigned16-bytes 4 t ++ formAt-bytes 6 t ++ formAt-bytes 15 t ++ []) ∙ elements 24 body 0 e
+  bodyBytes-decodeRecord (loopKind true) e =
+      (λ t. unsigned16-bytes 0 t ++ unsigned16-bytes 2 t ++ unsigned16-bytes 4 t ++ formAt-bytes 6 t ++ formAt-bytes 15 t ++ unsigned16-bytes 24 t)
+      ∙ elements 26 body 0 e
   bodyBytes-decodeRecord endKind e = elements 0 body 0 e
   bodyBytes-decodeRecord choiceKind e = elements 0 body 0 e
   bodyBytes-decodeRecord nextArmKind e = elements 0 body 0 e
@@ -179,9 +184,9 @@ module _ (depth : ℕ) (f : Form) (i : FormInRange depth f) where
 
 -- a loop whose fields fit their bytes is read back
 module _ (depth : ℕ) (l : Loop) (startFits : l .start < 2 ^ 16) (stepFits : l .step < 2 ^ 16) (strideFits : l .stride < 2 ^ 16)
-    (lowerFits : FormInRange depth (l .lower)) (upperFits : FormInRange depth (l .upper)) where
-  pub loop-decoded : decodeRecord loopKind (bodyBytes (loopRecord l)) ≡ loopRecord l
-  unfolding decodeRecord bodyBytes unsigned16 littleEndian
+    (lowerFits : FormInRange depth (l .lower)) (upperFits : FormInRange depth (l .upper)) (skipFits : skipCycles l < 2 ^ 16) where
+  pub loop-decoded : decodeRecord (kind (loopRecord l)) (bodyBytes (loopRecord l)) ≡ loopRecord l
+  unfolding decodeRecord kind isGiven skipWhere bodyBytes unsigned16 littleEndian
   loop-decoded =
       λ t. loopRecord (record {
         start = unsigned-littleEndian 2 (l .start) startFits t;
@@ -189,33 +194,57 @@ module _ (depth : ℕ) (l : Loop) (startFits : l .start < 2 ^ 16) (stepFits : l 
         stride = unsigned-littleEndian 2 (l .stride) strideFits t;
         lower = lower t;
         upper = upper t;
+        skip = skip (l .skip) refl t;
       })
     where
       body : List ℕ
       body = bodyBytes (loopRecord l)
 
-      lower : formAt body 6 ≡ l .lower
-      lower = formAt-drop body 6 ∙ formAt-formBytes depth (l .lower) lowerFits (formBytes (l .upper))
+      forms : List ℕ
+      forms = formBytes (l .lower) ++ (formBytes (l .upper) ++ skipBytes (l .skip))
 
-      -- nine bytes of the lower form stand before the upper form
-      after : drop 15 body ≡ formBytes (l .upper) ++ []
-      after = drop-at (formBytes (l .lower)) (formBytes (l .upper)) 9 (length-formBytes depth (l .lower) lowerFits) ∙ sym (append-nil (formBytes (l .upper)))
+      -- both forms and the skip stand after six bytes
+      costsBefore : drop 6 body ≡ forms
+      costsBefore = append-assoc (formBytes (l .lower)) (formBytes (l .upper)) (skipBytes (l .skip))
+
+      lower : formAt body 6 ≡ l .lower
+      lower = formAt-drop body 6 ∙ ap (λ (x : List ℕ). formAt x 0) costsBefore ∙ formAt-formBytes depth (l .lower) lowerFits (formBytes (l .upper) ++ skipBytes (l .skip))
+
+      -- the upper form after the nine bytes of the lower form, and the skip after its nine
+      lowerBefore : drop 15 body ≡ formBytes (l .upper) ++ skipBytes (l .skip)
+      lowerBefore = ap (drop 9) costsBefore ∙ drop-at (formBytes (l .lower)) (formBytes (l .upper) ++ skipBytes (l .skip)) 9 (length-formBytes depth (l .lower) lowerFits)
 
       upper : formAt body 15 ≡ l .upper
-      upper = formAt-drop body 15 ∙ ap (λ (x : List ℕ). formAt x 0) after ∙ formAt-formBytes depth (l .upper) upperFits []
+      upper = formAt-drop body 15 ∙ ap (λ (x : List ℕ). formAt x 0) lowerBefore ∙ formAt-formBytes depth (l .upper) upperFits (skipBytes (l .skip))
+
+      formsBefore : drop 24 body ≡ skipBytes (l .skip)
+      formsBefore = sym (drop-drop 9 15 body) ∙ ap (drop 9) lowerBefore ∙ drop-at (formBytes (l .upper)) (skipBytes (l .skip)) 9 (length-formBytes depth (l .upper) upperFits)
+
+      skip : (s : Option ℕ) → l .skip ≡ s → skipWhere (isGiven s) (unsigned (getD body 24 0 ∷ getD body 25 0 ∷ [])) ≡ s
+      skip none e = refl
+      skip (some n) e =
+          let here : drop 24 body ≡ littleEndian 2 n = formsBefore ∙ (unfold skipBytes in ap (λ (s : Option ℕ). skipBytes s) e) in
+          let cycles : skipCycles l ≡ n = unfold skipCycles skipOr in ap (λ (s : Option ℕ). skipOr s (l .start)) e in
+          let fits : n < 2 ^ 16 = subst (λ (m : ℕ). m < 2 ^ 16) cycles skipFits in
+          sym (λ t. some (unsigned (getD-drop 24 body 0 0 t ∷ getD-drop 24 body 1 0 t ∷ []))) ∙ (λ t. some (unsigned (getD (here t) 0 0 ∷ getD (here t) 1 0 ∷ [])))
+          ∙ ap (λ (m : ℕ). some m) (unsigned-littleEndian 2 n fits)
+
+pub length-skipBytes : (s : Option ℕ) → 24 + length (skipBytes s) ≡ bodyLength (loopKind (isGiven s))
+unfolding skipBytes bodyLength isGiven
+length-skipBytes none = refl
+length-skipBytes (some n) = simp length-littleEndian
+
+pub length-loop : (depth : ℕ) (l : Loop) → FormInRange depth (l .lower) → FormInRange depth (l .upper) →
+    length (bodyBytes (loopRecord l)) ≡ bodyLength (loopKind (isGiven (l .skip)))
+unfolding bodyBytes
+length-loop depth l lower upper =
+    simp (length-append, length-littleEndian, length-formBytes depth (l .lower) lower, length-formBytes depth (l .upper) upper) (length-skipBytes (l .skip))
 
 module _ (os : List Open) where
   pub length-bodyBytes : (r : Record) → T (fieldsInRange os r) → length (bodyBytes r) ≡ bodyLength (kind r)
   unfolding bodyBytes bodyLength kind
   length-bodyBytes (workRecord least most) t = simp (length-append, length-littleEndian)
-  length-bodyBytes (loopRecord l) t =
-      let i = loop-in-range os l t in
-      simp (
-        length-append,
-        length-littleEndian,
-        length-formBytes (loopDepth os) (l .lower) (i .lowerInRange),
-        length-formBytes (loopDepth os) (l .upper) (i .upperInRange),
-      )
+  length-bodyBytes (loopRecord l) t = let i = loop-in-range os l t in length-loop (loopDepth os) l (i .lowerInRange) (i .upperInRange)
   length-bodyBytes endRecord t = refl
   length-bodyBytes choiceRecord t = refl
   length-bodyBytes nextArmRecord t = refl
@@ -227,7 +256,7 @@ module _ (os : List Open) where
       λ s. workRecord (unsigned-littleEndian 2 least (omega (arith, w .ordered, w .mostSmall)) s) (unsigned-littleEndian 2 most (omega (arith, w .mostSmall)) s)
   decodeRecord-bodyBytes (loopRecord l) t =
       let i = loop-in-range os l t in
-      loop-decoded (loopDepth os) l (omega (arith, i .startSmall)) (omega (arith, i .stepSmall)) (omega (arith, i .strideSmall)) (i .lowerInRange) (i .upperInRange)
+      loop-decoded (loopDepth os) l (omega (arith, i .startSmall)) (omega (arith, i .stepSmall)) (omega (arith, i .strideSmall)) (i .lowerInRange) (i .upperInRange) (omega (arith, i .skipSmall))
   decodeRecord-bodyBytes endRecord t = refl
   decodeRecord-bodyBytes choiceRecord t = refl
   decodeRecord-bodyBytes nextArmRecord t = refl

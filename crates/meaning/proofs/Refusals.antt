@@ -10,8 +10,8 @@ use lib.ListN.{length, take, drop, length-take, length-drop}
 use lib.Dec.{T, leb, leb→le}
 use Rattle.meaning.specs.Limits.{recordLimit, recordLengthLimit}
 use Rattle.meaning.specs.Record.{kindOf, bodyLength, Record, kind, recordLength, decodeRecord, sheetBytes, Open, fieldsInRange, openAfter}
-use Rattle.meaning.specs.Reader.{Result, ok, refused, require, orRefuse, andThen, Accepted, accept, readRecord, endOfSheet, readFrom, read}
-use Rattle.meaning.specs.Writer.{RawRecord, foreignFieldsZero, recordOf, checkRecord, checkFrom, check, store, write}
+use Rattle.meaning.specs.Reader.{readFromOf, readRecordOf, Result, ok, refused, require, orRefuse, andThen, Accepted, accept, readRecord, endOfSheet, readFrom, read}
+use Rattle.meaning.specs.Writer.{RawRecord, foreignFieldsZero, recordOf, checkRecord, checkFrom, check, store, write, fitSheet}
 use Rattle.meaning.proofs.Accepted.{readRecord-ok}
 use Rattle.meaning.proofs.RecordBytes.{recordLength-bound}
 
@@ -67,14 +67,14 @@ pub record ReaderRefusal (sheetLength number place : ℕ) : Type 0 where
 
 module _ (limit : ℕ) where
   readRecord-refusals : (at : ℕ) (os : List Open) (k : ℕ) (bytes : List ℕ) → at ≤ limit → Refusals (ReaderRefusal limit) (readRecord at os k bytes)
-  unfolding readRecord
+  unfolding readRecordOf
   readRecord-refusals at os k bytes n =
       refusals-andThen (ReaderRefusal limit) (orRefuse (kindOf k) 2 at) _ (refusals-orRefuse (ReaderRefusal limit) (kindOf k) 2 at (omega arith)) (λ c e.
       refusals-require (ReaderRefusal limit) (leb (bodyLength c) (length bytes)) 1 at _ (omega arith) (λ t.
       refusals-accept (ReaderRefusal limit) at os (decodeRecord c (take (bodyLength c) bytes)) (omega arith) (omega arith)))
 
   readFrom-refusals : (left at : ℕ) (os : List Open) (bytes : List ℕ) → at + length bytes ≤ limit → Refusals (ReaderRefusal limit) (readFrom left at os bytes)
-  unfolding readFrom
+  unfolding readFromOf
   readFrom-refusals zero at os [] n = refusals-endOfSheet (ReaderRefusal limit) at os [] (omega arith)
   readFrom-refusals zero at os (k ∷ bytes) n = unfold Refusals in omega arith
   readFrom-refusals (suc left) at os [] n = refusals-endOfSheet (ReaderRefusal limit) at os [] (omega arith)
@@ -134,7 +134,7 @@ store-result buffer (refused number place) h = h
 
 pub write-refusal : (es : List RawRecord) (count : ℕ) (buffer : List ℕ) (number place : ℕ) → write es count buffer .result ≡ refused number place →
     WriterRefusal number place
-unfolding write
+unfolding write fitSheet
 write-refusal es count buffer number place e =
     refusals-refused WriterRefusal (write es count buffer .result) number place
     (store-result buffer _ (refusals-andThen WriterRefusal (check es count) _ (check-refusals es count) (λ rs q.

@@ -10,7 +10,7 @@ use lib.Dec.{T, leb, le→leb}
 use Rattle.meaning.specs.Limits.{recordLimit}
 use Rattle.meaning.specs.Record.{Kind, kindNumber, kindOf, bodyLength, Record, kind, recordLength, decodeRecord}
 use Rattle.meaning.specs.Record.{bodyBytes, recordBytes, sheetBytes, Open, fieldsInRange, openAfter}
-use Rattle.meaning.specs.Reader.{ok, accept, readRecord, endOfSheet, readFrom, read}
+use Rattle.meaning.specs.Reader.{readFromOf, readRecordOf, ok, accept, readRecord, endOfSheet, readFrom, read}
 use Rattle.meaning.proofs.Logic.{andThen-yes, require-yes, orRefuse-yes}
 use Rattle.meaning.proofs.Number.{Bytes, bytes-take, bytes-drop}
 use Rattle.meaning.proofs.Accepted.{IsAccepted, accept-in-place, readFrom-first, readFrom-none, InPlace, WellFormed}
@@ -54,7 +54,7 @@ written-as-read sheet rs h e = readFrom-written rs recordLimit 0 [] sheet h e
 -- where the kind byte names a kind and the body is there, refusals 3 and 5 are left
 pub readRecord-accept : (at : ℕ) (os : List Open) (k : ℕ) (bytes : List ℕ) (c : Kind) → kindOf k ≡ some c → bodyLength c ≤ length bytes →
     readRecord at os k bytes ≡ accept at os (decodeRecord c (take (bodyLength c) bytes))
-unfolding readRecord
+unfolding readRecordOf
 readRecord-accept at os k bytes c e n =
     andThen-yes _ (orRefuse-yes 2 at e) ∙ require-yes (leb (bodyLength c) (length bytes)) 1 at _ (le→leb (bodyLength c) (length bytes) n)
 
@@ -72,13 +72,13 @@ readRecord-written at os after r rest t e =
 pub readFrom-step : (left at : ℕ) (os : List Open) (k : ℕ) (bytes : List ℕ) (r : Record) (after : List Open) (rs : List Record) →
     readRecord at os k bytes ≡ ok (record { accepted = r; after = after }) →
     readFrom left (at + recordLength r) after (drop (bodyLength (kind r)) bytes) ≡ ok rs → readFrom (suc left) at os (k ∷ bytes) ≡ ok (r ∷ rs)
-unfolding readFrom
+unfolding readFromOf
 readFrom-step left at os k bytes r after rs e q = andThen-yes _ e ∙ andThen-yes _ q
 
 readFrom-as-written : (rs : List Record) (left at : ℕ) (os : List Open) → length rs ≤ left → InPlace os rs → readFrom left at os (sheetBytes rs) ≡ ok rs
 unfolding sheetBytes recordBytes InPlace
-readFrom-as-written [] zero at os n h = unfold readFrom endOfSheet in ap (λ (x : List Open). endOfSheet at x []) h
-readFrom-as-written [] (suc left) at os n h = unfold readFrom endOfSheet in ap (λ (x : List Open). endOfSheet at x []) h
+readFrom-as-written [] zero at os n h = unfold readFromOf endOfSheet in ap (λ (x : List Open). endOfSheet at x []) h
+readFrom-as-written [] (suc left) at os n h = unfold readFromOf endOfSheet in ap (λ (x : List Open). endOfSheet at x []) h
 readFrom-as-written (r ∷ rs) zero at os n h = absurd (omega arith)
 readFrom-as-written (r ∷ rs) (suc left) at os n (after, e, t, h) =
     readFrom-step left at os (kindNumber (kind r)) (bodyBytes r ++ sheetBytes rs) r after rs (readRecord-written at os after r (sheetBytes rs) t e)

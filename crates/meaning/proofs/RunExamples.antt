@@ -2,6 +2,7 @@
 use mathlib.Core.Path.{refl}
 use mathlib.Core.List.{List, [], _∷_}
 use mathlib.Core.Logic.{inl, inr}
+use mathlib.Core.Option.{none}
 use Prim.Native.Nat.{ℕ}
 use native.Mathlib.Omega.{arith}
 use lib.IntN.{ℤ, pos}
@@ -21,11 +22,11 @@ outerIndex = record { constant = pos 0; index = pos 1 ∷ pos 0 ∷ pos 0 ∷ []
 
 -- i 0 to 1
 abbrev twoTrips : Loop
-twoTrips = record { start = 0; step = 0; stride = 1; lower = constantForm 0; upper = constantForm 1 }
+twoTrips = record { start = 0; step = 0; stride = 1; lower = constantForm 0; upper = constantForm 1; skip = none }
 
 -- j 0 to i
 abbrev upToOuter : Loop
-upToOuter = record { start = 0; step = 0; stride = 1; lower = constantForm 0; upper = outerIndex }
+upToOuter = record { start = 0; step = 0; stride = 1; lower = constantForm 0; upper = outerIndex; skip = none }
 
 -- the parameters are of no matter here
 abbrev ps : List ℤ

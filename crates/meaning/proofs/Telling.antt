@@ -2,7 +2,7 @@
 use mathlib.Core.Path.{_≡_, refl}
 use mathlib.Core.List.{[], _∷_}
 use Rattle.meaning.specs.Reader.{ok, refused}
-use Rattle.meaning.specs.Reason.{holdsLoop, unevenIn}
+use Rattle.meaning.specs.Reason.{holdsLoop, tooFewTrips, unevenIn}
 use Rattle.meaning.specs.Answer.{figures, answer}
 use Rattle.meaning.proofs.Vocabulary.{hex, zeroParameters, closedLoop, walkedLoop, sheetReportsOf}
 use Rattle.meaning.proofs.Computes.{computes}
@@ -59,5 +59,63 @@ pub telling-2 :
     × (answer (hex "040101000100") zeroParameters 9 ≡ refused 5 6)
     -- 4 before 1: a 65th record that is cut
     × (answer (hex "0403040304030403040304030403040304030403040304030403040304030403040304030403040304030403040304030403040304030403040304030403040302") zeroParameters 9 ≡ refused 4 64)
+    -- skip in place of start, not beside it, i 0..-1, start 5, step 9, skip 2
+    × (answer (hex "06050009000100000000000000000000ffff000000000000000200010100010003") zeroParameters 99 ≡ ok (figures 2 2 0))
+    × (sheetReportsOf (hex "06050009000100000000000000000000ffff000000000000000200010100010003") zeroParameters ≡ (closedLoop 0 0 ∷ []))
+    -- start alone where there is a trip, i 0..1, start 5, skip 2
+    × (answer (hex "060500000001000000000000000000000100000000000000000200010100010003") zeroParameters 99 ≡ ok (figures 7 7 1))
+    × (sheetReportsOf (hex "060500000001000000000000000000000100000000000000000200010100010003") zeroParameters ≡ (closedLoop 0 2 ∷ []))
+    -- a skip above start, i 0..-1, start 1, skip 4,095
+    × (answer (hex "06010000000100000000000000000000ffff00000000000000ff0f010100010003") zeroParameters 99 ≡ ok (figures 4095 4095 0))
+    × (sheetReportsOf (hex "06010000000100000000000000000000ffff00000000000000ff0f010100010003") zeroParameters ≡ (closedLoop 0 0 ∷ []))
+    -- no trip of kind 2, i 0..-1, start 5
+    × (answer (hex "02050000000100000000000000000000ffff00000000000000010100010003") zeroParameters 99 ≡ ok (figures 5 5 0))
+    × (sheetReportsOf (hex "02050000000100000000000000000000ffff00000000000000010100010003") zeroParameters ≡ (closedLoop 0 0 ∷ []))
+    -- a skip that differs asks for a D of 0, i 0..9 { j 0..i, start 5, skip 1 }
+    × (answer (hex "0200000000010000000000000000000009000000000000000006050000000100000000000000000000000001000000000000010001010001000303") zeroParameters 99 ≡ ok (figures 105 105 4))
+    × (sheetReportsOf (hex "0200000000010000000000000000000009000000000000000006050000000100000000000000000000000001000000000000010001010001000303") zeroParameters ≡ (closedLoop 0 10 ∷ closedLoop 25 10 ∷ []))
 unfolding computes
-telling-2 = (refl, refl, refl, refl, refl, refl, refl, refl, refl, refl)
+telling-2 = (refl, refl, refl, refl, refl, refl, refl, refl, refl, refl, refl, refl, refl, refl, refl, refl, refl, refl, refl, refl)
+
+pub telling-3 :
+    -- and -1 by stride 2 is too few, i 0..3 { j 0..2i-1 by 2, start 5, skip 1 }
+    (answer (hex "0200000000010000000000000000000003000000000000000006050000000200000000000000000000ffff02000000000000010001010001000303") zeroParameters 99 ≡ ok (figures 22 22 7))
+    × (sheetReportsOf (hex "0200000000010000000000000000000003000000000000000006050000000200000000000000000000ffff02000000000000010001010001000303") zeroParameters ≡ (walkedLoop 0 4 (tooFewTrips 25) ∷ closedLoop 25 3 ∷ []))
+    -- so it is of a skip above start, i 0..3 { j 0..i-1, start 1, skip 5 }
+    × (answer (hex "0200000000010000000000000000000003000000000000000006010000000100000000000000000000ffff01000000000000050001010001000303") zeroParameters 99 ≡ ok (figures 14 14 7))
+    × (sheetReportsOf (hex "0200000000010000000000000000000003000000000000000006010000000100000000000000000000ffff01000000000000050001010001000303") zeroParameters ≡ (walkedLoop 0 4 (tooFewTrips 25) ∷ closedLoop 25 3 ∷ []))
+    -- a skip equal to start asks no more than kind 2, i 0..9 { j 0..i-1, start 3, skip 3 }
+    × (answer (hex "0200000000010000000000000000000009000000000000000006030000000100000000000000000000ffff01000000000000030001010001000303") zeroParameters 99 ≡ ok (figures 75 75 3))
+    × (sheetReportsOf (hex "0200000000010000000000000000000009000000000000000006030000000100000000000000000000ffff01000000000000030001010001000303") zeroParameters ≡ (closedLoop 0 10 ∷ closedLoop 25 9 ∷ []))
+    -- the skip of a loop deeper inside, i 0..2 { j 0..2 { k 0..i-1, start 5, skip 1 } }
+    × (answer (hex "020000000001000000000000000000000200000000000000000200000000010000000000000000000002000000000000000006050000000100000000000000000000ffff0100000000000001000101000100030303") zeroParameters 99 ≡ ok (figures 42 42 18))
+    × (sheetReportsOf (hex "020000000001000000000000000000000200000000000000000200000000010000000000000000000002000000000000000006050000000100000000000000000000ffff0100000000000001000101000100030303") zeroParameters ≡ (walkedLoop 0 3 (tooFewTrips 50) ∷ walkedLoop 25 3 (tooFewTrips 50) ∷ closedLoop 50 2 ∷ []))
+    -- asked of a loop that never makes a trip, i 0..3 { j 0..-1, start 5, skip 1 }
+    × (answer (hex "0200000000010000000000000000000003000000000000000006050000000100000000000000000000ffff00000000000000010001010001000303") zeroParameters 99 ≡ ok (figures 4 4 4))
+    × (sheetReportsOf (hex "0200000000010000000000000000000003000000000000000006050000000100000000000000000000ffff00000000000000010001010001000303") zeroParameters ≡ (walkedLoop 0 4 (tooFewTrips 25) ∷ closedLoop 25 0 ∷ []))
+    -- asked of a loop that is never entered, i 0..-1 { j 0..-1, start 5, skip 1 }
+    × (answer (hex "02000000000100000000000000000000ffff0000000000000006050000000100000000000000000000ffff00000000000000010001010001000303") zeroParameters 99 ≡ ok (figures 0 0 0))
+    × (sheetReportsOf (hex "02000000000100000000000000000000ffff0000000000000006050000000100000000000000000000ffff00000000000000010001010001000303") zeroParameters ≡ (walkedLoop 0 0 (tooFewTrips 25) ∷ closedLoop 25 0 ∷ []))
+    -- not asked of the loop itself, i 0..-1, start 5, skip 1 { j 0..i }
+    × (answer (hex "06050000000100000000000000000000ffff0000000000000001000200000000010000000000000000000000000100000000000001010001000303") zeroParameters 99 ≡ ok (figures 1 1 0))
+    × (sheetReportsOf (hex "06050000000100000000000000000000ffff0000000000000001000200000000010000000000000000000000000100000000000001010001000303") zeroParameters ≡ (closedLoop 0 0 ∷ closedLoop 27 1 ∷ []))
+    -- no trip in an arm, choice { i 0..-1, start 9, skip 2 or work 4 }
+    × (answer (hex "0406090000000100000000000000000000ffff00000000000000020001010001000305010400040003") zeroParameters 99 ≡ ok (figures 2 4 0))
+    × (sheetReportsOf (hex "0406090000000100000000000000000000ffff00000000000000020001010001000305010400040003") zeroParameters ≡ (closedLoop 1 0 ∷ []))
+    -- no trip in an arm at times, i 0..2 { choice { j 0..i-1, start 9, skip 2 or work 4 } }
+    × (answer (hex "020000000001000000000000000000000200000000000000000406090000000100000000000000000000ffff0100000000000002000101000100030501040004000303") zeroParameters 99 ≡ ok (figures 10 25 5))
+    × (sheetReportsOf (hex "020000000001000000000000000000000200000000000000000406090000000100000000000000000000ffff0100000000000002000101000100030501040004000303") zeroParameters ≡ (walkedLoop 0 3 (holdsLoop 25) ∷ closedLoop 26 2 ∷ []))
+    -- a body of kind 6 one byte short
+    × (answer (hex "0600000000010000000000000000000001000000000000000002") zeroParameters 99 ≡ refused 1 0)
+    -- skip 4,096
+    × (answer (hex "06000000000100000000000000000000010000000000000000001003") zeroParameters 99 ≡ refused 3 0)
+unfolding computes
+telling-3 = (refl, refl, refl, refl, refl, refl, refl, refl, refl, refl, refl, refl, refl, refl, refl, refl, refl, refl, refl, refl)
+
+pub telling-4 :
+    -- kinds 2 and 6 are one depth each, a fifth
+    (answer (hex "0200000000010000000000000000000001000000000000000006000000000100000000000000000000010000000000000000010002000000000100000000000000000000010000000000000000060000000001000000000000000000000100000000000000000100060000000001000000000000000000000100000000000000000100") zeroParameters 99 ≡ refused 5 104)
+    -- next arm in a loop of kind 6
+    × (answer (hex "0406000000000100000000000000000000010000000000000000010005") zeroParameters 99 ≡ refused 5 28)
+unfolding computes
+telling-4 = (refl, refl)

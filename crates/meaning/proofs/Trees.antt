@@ -1,6 +1,6 @@
 -- The tree of a tree's records is that tree, and `afterEnd` goes over a tree's records.
 use mathlib.Core.Path.{_≡_, refl, sym, ap, _∙_}
-use mathlib.Core.List.{List, _∷_, _++_, append-assoc}
+use mathlib.Core.List.{List, [], _∷_, _++_, append-assoc, append-nil}
 use Prim.Native.Nat.{ℕ, suc}
 use Rattle.meaning.specs.Record.{Record, endRecord, nextArmRecord}
 use Rattle.meaning.specs.Tree.{Block, Arms, empty, work, loop, choice, lastArm, arm, Segments, final, beforeEnd, beforeNextArm}
@@ -84,3 +84,7 @@ mutual
 pub tree-before-end : (b : Block) (q : List Record) → tree (records b ++ (endRecord ∷ q)) ≡ b
 unfolding tree segments firstSegment onFirst
 tree-before-end b q = ap firstSegment (segments-records b (endRecord ∷ q)) ∙ followedBy-empty b
+
+pub tree-records : (b : Block) → tree (records b) ≡ b
+unfolding tree segments firstSegment onFirst
+tree-records b = ap tree (sym (append-nil (records b))) ∙ ap firstSegment (segments-records b []) ∙ followedBy-empty b

@@ -18,7 +18,7 @@ use Rattle.meaning.specs.Report.{LoopReport}
 use Rattle.meaning.specs.Stage.{State, firstState, stages}
 use Rattle.meaning.specs.CCall.{Called}
 use Rattle.meaning.specs.Program.{reportsOf}
-use Rattle.meaning.specs.TextCall.{TextCalled}
+use Rattle.meaning.specs.Lent.{Lent}
 
 unfoldable digitValue : Bool → ℕ → ℕ
 digitValue true c = c - 48
@@ -41,12 +41,28 @@ zeroParameters = L._∷_ (pos 0) (L._∷_ (pos 0) (L._∷_ (pos 0) (L._∷_ (pos
 abbrev pub form : ℤ → List ℤ → List ℤ → Form
 form constant index parameter = record { constant = constant; index = index; parameter = parameter }
 
+-- of kind 2
 abbrev pub loopOf : ℕ → ℕ → ℕ → Form → Form → Loop
-loopOf start step stride lower upper = record { start = start; step = step; stride = stride; lower = lower; upper = upper }
+loopOf start step stride lower upper =
+    record { start = start; step = step; stride = stride; lower = lower; upper = upper; skip = none }
 
-abbrev pub raw : ℕ → ℕ → ℕ → ℕ → ℕ → ℕ → Form → Form → RawRecord
-raw kindByte least most start step stride lower upper =
-    record { kindByte = kindByte; least = least; most = most; loopFields = loopOf start step stride lower upper }
+-- of kind 6
+abbrev pub skipLoopOf : ℕ → ℕ → ℕ → Form → Form → ℕ → Loop
+skipLoopOf start step stride lower upper skip =
+    record { start = start; step = step; stride = stride; lower = lower; upper = upper; skip = some skip }
+
+abbrev pub raw : ℕ → ℕ → ℕ → ℕ → ℕ → ℕ → Form → Form → ℕ → RawRecord
+raw kindByte least most start step stride lower upper skip = record {
+  kindByte = kindByte;
+  least = least;
+  most = most;
+  start = start;
+  step = step;
+  stride = stride;
+  lower = lower;
+  upper = upper;
+  skip = skip;
+}
 
 abbrev pub closedLoop : ℕ → ℕ → LoopReport
 closedLoop offset ceiling = record { offset = offset; class = closedClass; ceiling = ceiling; reason = none }
@@ -69,8 +85,8 @@ notWritten number place buffer = record { result = refused number place; buffer 
 abbrev pub called : ℕ → List ℕ → Called
 called number area = record { number = number; area = area }
 
-abbrev pub textCalled : ℕ → List ℕ → List ℕ → TextCalled
-textCalled number text area = record { number = number; text = text; area = area }
+abbrev pub lent : ℕ → List ℕ → List ℕ → Lent
+lent number buffer area = record { number = number; buffer = buffer; area = area }
 
 abbrev pub found : ℕ → ℕ → ℕ → Result (Option Head)
 found kindNumber bodyOffset bodyLength = ok (some (record { kindNumber = kindNumber; bodyOffset = bodyOffset; bodyLength = bodyLength }))

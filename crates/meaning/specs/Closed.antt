@@ -8,7 +8,7 @@ use lib.Dec.{eqb}
 use lib.ListN.{length, replicate}
 use Rattle.whole.specs.Integer.{dot, divides}
 use Rattle.meaning.specs.Form.{Form}
-use Rattle.meaning.specs.Record.{Loop}
+use Rattle.meaning.specs.Record.{Loop, skipCycles}
 use Rattle.meaning.specs.Tree.{Block, empty, work, loop, choice, armsLoops}
 use Rattle.meaning.specs.Time.{difference, signedStride, strideSize}
 use Rattle.meaning.specs.Range.{Range, innerRanges, differenceRange}
@@ -36,9 +36,9 @@ unfoldable pub strideDivides : Loop → List (List ℤ) → Bool
 strideDivides l [] = true
 strideDivides l (pushes ∷ others) = divides (strideSize l) (push (difference l) pushes) && strideDivides l others
 
--- the smallest D that closing a loop asks of a loop inside it: minus that one's stride
+-- the smallest D that closing a loop asks of a loop inside it: minus that one's stride; document 02: "Where skip and start differ", 0
 unfoldable pub askedDifference : Loop → ℤ
-askedDifference l = negℤ (pos (strideSize l))
+askedDifference l = cond (eqb (skipCycles l) (l .start)) (negℤ (pos (strideSize l))) (pos zero)
 
 -- document 01: a loop is closed, or otherwise walked
 pub data LoopClass : Type 0 where

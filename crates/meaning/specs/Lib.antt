@@ -9,6 +9,7 @@ pub mod Time
 pub mod Run
 pub mod Range
 pub mod Closed
+pub mod FirstReader
 pub mod Visits
 pub mod Place
 pub mod Reason
@@ -17,10 +18,14 @@ pub mod Report
 pub mod ClosedSum
 pub mod Stage
 pub mod Answer
+pub mod Converter
+pub mod Moved
 pub mod CCall
 pub mod Text
 pub mod ReasonLine
 pub mod ReasonsTold
 pub mod Program
+pub mod Lent
 pub mod TextCall
+pub mod ConverterCall
 pub mod Demand

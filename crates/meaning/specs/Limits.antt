@@ -1,4 +1,4 @@
--- The numbers of document 01, of the calls that store a text and of the reasons, each named once.
+-- The numbers of documents 01 and 02, each named once.
 use Prim.Native.Nat.{ℕ, _+_, _*_, _^_}
 
 -- "The sheet": at most 64 records, loops 4 deep, 8 records open together
@@ -11,9 +11,9 @@ depthLimit = 4
 abbrev pub openLimit : ℕ
 openLimit = 8
 
--- a loop has the longest body; the longest record with its kind, and the longest sheet
+-- a loop with a skip has the longest body; the longest record with its kind, and the longest sheet
 abbrev pub bodyLimit : ℕ
-bodyLimit = 24
+bodyLimit = 26
 
 abbrev pub recordLengthLimit : ℕ
 recordLengthLimit = 1 + bodyLimit
@@ -21,7 +21,7 @@ recordLengthLimit = 1 + bodyLimit
 abbrev pub sheetLengthLimit : ℕ
 sheetLengthLimit = recordLimit * recordLengthLimit
 
--- "The sheet": the largest most of a work, start and step of a loop; a loop's largest stride
+-- "The sheet": the largest most of a work, start, step and skip of a loop; a loop's largest stride
 abbrev pub costLimit : ℕ
 costLimit = 4095
 
@@ -54,7 +54,7 @@ budgetLimit = 1000000
 abbrev pub areaLength : ℕ
 areaLength = 24
 
--- refusal 9 of the calls that store a text: the bytes that its length takes in the area
+-- refusal 9 of the calls that store a text or a sheet: the bytes that its length takes in the area
 abbrev pub lengthSize : ℕ
 lengthSize = 8
 

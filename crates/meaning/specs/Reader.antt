@@ -6,7 +6,7 @@ use Prim.Native.Nat.{ℕ, zero, suc, _+_}
 use lib.Dec.{leb}
 use lib.ListN.{length, take, drop}
 use Rattle.meaning.specs.Limits.{recordLimit}
-use Rattle.meaning.specs.Record.{kindOf, bodyLength, Record, kind, recordLength, decodeRecord, Open, fieldsInRange, openAfter}
+use Rattle.meaning.specs.Record.{Kind, kindOf, bodyLength, Record, kind, recordLength, decodeRecord, Open, fieldsInRange, openAfter}
 
 -- a value, or a refusal: its number and its place
 pub data Result (A : Type 0) : Type 0 where
@@ -34,26 +34,35 @@ pub record Accepted : Type 0 where
 unfoldable pub accept : ℕ → List Open → Record → Result Accepted
 accept at os r = require (fieldsInRange os r) 3 at (andThen (orRefuse (openAfter os r) 5 at) λ after. ok (record { accepted = r; after = after }))
 
--- one record at `at`, where its first byte is `kindByte` and `bytes` follow: refusals 2, 1, 3 and 5 in this order
-unfoldable pub readRecord : ℕ → List Open → ℕ → List ℕ → Result Accepted
-readRecord at os kindByte bytes =
-    andThen (orRefuse (kindOf kindByte) 2 at) λ k.
-    require (leb (bodyLength k) (length bytes)) 1 at (accept at os (decodeRecord k (take (bodyLength k) bytes)))
-
 -- what is open at the end of the sheet, whose length is `at`, is refused with 5
 unfoldable pub endOfSheet : {A : Type 0} → ℕ → List Open → A → Result A
 endOfSheet at [] a = ok a
 endOfSheet at (o ∷ os) a = refused 5 at
 
--- from `at` on, where os is open, at most `left` further records
-unfoldable pub readFrom : ℕ → ℕ → List Open → List ℕ → Result (List Record)
-readFrom zero at os [] = endOfSheet at os []
-readFrom zero at os (kindByte ∷ bytes) = refused 4 at
-readFrom (suc left) at os [] = endOfSheet at os []
-readFrom (suc left) at os (kindByte ∷ bytes) =
-    andThen (readRecord at os kindByte bytes) λ a.
-    andThen (readFrom left (at + recordLength (a .accepted)) (a .after) (drop (bodyLength (kind (a .accepted))) bytes)) λ rs.
-    ok (a .accepted ∷ rs)
+-- where a byte names one of these kinds, or none
+module _ (kinds : ℕ → Option Kind) where
+  -- one record at `at`, where its first byte is `kindByte` and `bytes` follow: refusals 2, 1, 3 and 5 in this order
+  unfoldable pub readRecordOf : ℕ → List Open → ℕ → List ℕ → Result Accepted
+  readRecordOf at os kindByte bytes =
+      andThen (orRefuse (kinds kindByte) 2 at) λ k.
+      require (leb (bodyLength k) (length bytes)) 1 at (accept at os (decodeRecord k (take (bodyLength k) bytes)))
+
+  -- from `at` on, where os is open, at most `left` further records
+  unfoldable pub readFromOf : ℕ → ℕ → List Open → List ℕ → Result (List Record)
+  readFromOf zero at os [] = endOfSheet at os []
+  readFromOf zero at os (kindByte ∷ bytes) = refused 4 at
+  readFromOf (suc left) at os [] = endOfSheet at os []
+  readFromOf (suc left) at os (kindByte ∷ bytes) =
+      andThen (readRecordOf at os kindByte bytes) λ a.
+      andThen (readFromOf left (at + recordLength (a .accepted)) (a .after) (drop (bodyLength (kind (a .accepted))) bytes)) λ rs.
+      ok (a .accepted ∷ rs)
+
+-- with the kinds that there are
+abbrev pub readRecord : ℕ → List Open → ℕ → List ℕ → Result Accepted
+readRecord = readRecordOf kindOf
+
+abbrev pub readFrom : ℕ → ℕ → List Open → List ℕ → Result (List Record)
+readFrom = readFromOf kindOf
 
 -- document 01: the reader
 unfoldable pub read : List ℕ → Result (List Record)

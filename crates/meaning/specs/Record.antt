@@ -1,6 +1,6 @@
 -- Records: kinds, bodies, fields in range, and what is open after a record.
 use mathlib.Core.List.{List, [], _∷_, _++_}
-use mathlib.Core.Bool.{Bool, true, cond, _&&_}
+use mathlib.Core.Bool.{Bool, true, false, cond, _&&_}
 use mathlib.Core.Option.{Option, none, some}
 use Prim.Native.Nat.{ℕ, zero, suc, _+_}
 use lib.Dec.{leb, ltb, eqb}
@@ -9,12 +9,15 @@ use Rattle.meaning.specs.Limits.{depthLimit, openLimit, costLimit, strid
 use Rattle.meaning.specs.Number.{littleEndian, unsigned16}
 use Rattle.meaning.specs.Form.{Form, formAt, formBytes, formInRange}
 
+-- kind 2 is a loop without a skip, kind 6 (document 02, C-12) one with a skip
 pub data Kind : Type 0 where
-  workKind loopKind endKind choiceKind nextArmKind : Kind
+  workKind endKind choiceKind nextArmKind : Kind
+  loopKind : (hasSkip : Bool) → Kind
 
 unfoldable pub kindNumber : Kind → ℕ
 kindNumber workKind = 1
-kindNumber loopKind = 2
+kindNumber (loopKind false) = 2
+kindNumber (loopKind true) = 6
 kindNumber endKind = 3
 kindNumber choiceKind = 4
 kindNumber nextArmKind = 5
@@ -23,22 +26,43 @@ kindNumber nextArmKind = 5
 unfoldable pub kindOf : ℕ → Option Kind
 kindOf n =
     cond (eqb n 1) (some workKind)
-    (cond (eqb n 2) (some loopKind) (cond (eqb n 3) (some endKind) (cond (eqb n 4) (some choiceKind) (cond (eqb n 5) (some nextArmKind) none))))
+    (cond (eqb n 2) (some (loopKind false))
+    (cond (eqb n 3) (some endKind) (cond (eqb n 4) (some choiceKind) (cond (eqb n 5) (some nextArmKind) (cond (eqb n 6) (some (loopKind true)) none)))))
 
 -- "a body whose length the kind fixes"
 unfoldable pub bodyLength : Kind → ℕ
 bodyLength workKind = 4
-bodyLength loopKind = 24
+bodyLength (loopKind false) = 24
+bodyLength (loopKind true) = 26
 bodyLength endKind = 0
 bodyLength choiceKind = 0
 bodyLength nextArmKind = 0
 
+-- a loop of either kind; one of kind 2 has no skip of its own
 pub record Loop : Type 0 where
   pub start : ℕ
   pub step : ℕ
   pub stride : ℕ
   pub lower : Form
   pub upper : Form
+  pub skip : Option ℕ
+
+unfoldable pub isGiven : Option ℕ → Bool
+isGiven (some skip) = true
+isGiven none = false
+
+-- a field as the skip of a loop of kind 6, or of kind 2, which has none
+unfoldable pub skipWhere : Bool → ℕ → Option ℕ
+skipWhere true field = some field
+skipWhere false field = none
+
+unfoldable pub skipOr : Option ℕ → ℕ → ℕ
+skipOr (some skip) start = skip
+skipOr none start = start
+
+-- document 02: skip cycles, "paid in place of start when there are no trips. Kind 2 means skip equal to start."
+unfoldable pub skipCycles : Loop → ℕ
+skipCycles l = skipOr (l .skip) (l .start)
 
 -- document 01: record
 pub data Record : Type 0 where
@@ -50,7 +74,7 @@ pub data Record : Type 0 where
 
 unfoldable pub kind : Record → Kind
 kind (workRecord least most) = workKind
-kind (loopRecord l) = loopKind
+kind (loopRecord l) = loopKind (isGiven (l .skip))
 kind endRecord = endKind
 kind choiceRecord = choiceKind
 kind nextArmRecord = nextArmKind
@@ -61,15 +85,28 @@ recordLength r = 1 + bodyLength (kind r)
 
 unfoldable pub decodeRecord : Kind → List ℕ → Record
 decodeRecord workKind body = workRecord (unsigned16 body 0) (unsigned16 body 2)
-decodeRecord loopKind body =
-    loopRecord (record { start = unsigned16 body 0; step = unsigned16 body 2; stride = unsigned16 body 4; lower = formAt body 6; upper = formAt body 15 })
+decodeRecord (loopKind hasSkip) body =
+    loopRecord (record {
+      start = unsigned16 body 0;
+      step = unsigned16 body 2;
+      stride = unsigned16 body 4;
+      lower = formAt body 6;
+      upper = formAt body 15;
+      skip = skipWhere hasSkip (unsigned16 body 24);
+    })
 decodeRecord endKind body = endRecord
 decodeRecord choiceKind body = choiceRecord
 decodeRecord nextArmKind body = nextArmRecord
 
+unfoldable pub skipBytes : Option ℕ → List ℕ
+skipBytes (some skip) = littleEndian 2 skip
+skipBytes none = []
+
 unfoldable pub bodyBytes : Record → List ℕ
 bodyBytes (workRecord least most) = littleEndian 2 least ++ littleEndian 2 most
-bodyBytes (loopRecord l) = littleEndian 2 (l .start) ++ littleEndian 2 (l .step) ++ littleEndian 2 (l .stride) ++ formBytes (l .lower) ++ formBytes (l .upper)
+bodyBytes (loopRecord l) =
+    littleEndian 2 (l .start) ++ littleEndian 2 (l .step) ++ littleEndian 2 (l .stride) ++ formBytes (l .lower) ++ formBytes (l .upper)
+    ++ skipBytes (l .skip)
 bodyBytes endRecord = []
 bodyBytes choiceRecord = []
 bodyBytes nextArmRecord = []
@@ -102,7 +139,7 @@ unfoldable pub fieldsInRange : List Open → Record → Bool
 fieldsInRange os (workRecord least most) = leb least most && leb most costLimit
 fieldsInRange os (loopRecord l) =
     leb (l .start) costLimit && leb (l .step) costLimit && leb 1 (l .stride) && leb (l .stride) strideLimit
-    && formInRange (loopDepth os) (l .lower) && formInRange (loopDepth os) (l .upper)
+    && formInRange (loopDepth os) (l .lower) && formInRange (loopDepth os) (l .upper) && leb (skipCycles l) costLimit
 fieldsInRange os endRecord = true
 fieldsInRange os choiceRecord = true
 fieldsInRange os nextArmRecord = true

@@ -4,7 +4,7 @@ use Prim.Native.Nat.{ℕ, zero, suc, _+_, min, max}
 use lib.IntN.{ℤ, pos, sucℤ, _+ℤ_, _*ℤ_}
 use Rattle.whole.specs.Integer.{atLeastZero, floorDivide}
 use Rattle.meaning.specs.Form.{Form, value, subtract}
-use Rattle.meaning.specs.Record.{Loop}
+use Rattle.meaning.specs.Record.{Loop, skipCycles}
 use Rattle.meaning.specs.Tree.{Block, Arms, empty, work, loop, choice, lastArm, arm}
 
 -- document 01: D, upper minus lower form
@@ -19,9 +19,11 @@ signedStride l = pos (l .stride)
 unfoldable pub strideSize : Loop → ℕ
 strideSize l = l .stride
 
--- what entering the loop costs, where it makes so many trips: "Its time is start, plus .. With no trip it is start alone"
+-- what entering the loop costs, where it makes so many trips: "Its time is start, plus .."; document 02: skip "in place of start when there are
+-- no trips"
 unfoldable pub entryCost : Loop → ℕ → ℕ
-entryCost l trips = l .start
+entryCost l zero = skipCycles l
+entryCost l (suc trips) = l .start
 
 -- max(0, floor(D ÷ stride) + 1)
 unfoldable pub tripCount : ℤ → ℕ → ℕ

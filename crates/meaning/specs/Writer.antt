@@ -1,13 +1,13 @@
 -- The writer: the sheet's length and the buffer as it is left, or refusal 4, 2, 3, 5 or 9 with its place.
 use mathlib.Core.List.{List, [], _∷_, _++_}
-use mathlib.Core.Bool.{Bool, _&&_}
+use mathlib.Core.Bool.{Bool, true, false, _&&_}
 use Prim.Native.Nat.{ℕ, _+_}
 use lib.Dec.{leb, eqb}
 use lib.ListN.{length, take, drop}
 use Rattle.meaning.specs.Limits.{recordLimit}
 use Rattle.meaning.specs.Form.{Form, isZero, allZero}
 use Rattle.meaning.specs.Record.{Kind, workKind, loopKind, endKind, choiceKind, nextArmKind, kindOf}
-use Rattle.meaning.specs.Record.{Loop, Record, workRecord, loopRecord, endRecord, choiceRecord, nextArmRecord, recordLength, sheetBytes, Open}
+use Rattle.meaning.specs.Record.{Loop, skipWhere, Record, workRecord, loopRecord, endRecord, choiceRecord, nextArmRecord, recordLength, sheetBytes, Open}
 use Rattle.meaning.specs.Reader.{Result, ok, refused, require, orRefuse, andThen, Accepted, accept, endOfSheet}
 
 -- a record as the writer takes it: any kind number, and the fields of every kind
@@ -15,7 +15,12 @@ pub record RawRecord : Type 0 where
   pub kindByte : ℕ
   pub least : ℕ
   pub most : ℕ
-  pub loopFields : Loop
+  pub start : ℕ
+  pub step : ℕ
+  pub stride : ℕ
+  pub lower : Form
+  pub upper : Form
+  pub skip : ℕ
 
 unfoldable pub workFieldsZero : RawRecord → Bool
 workFieldsZero r = eqb (r .least) 0 && eqb (r .most) 0
@@ -23,21 +28,37 @@ workFieldsZero r = eqb (r .least) 0 && eqb (r .most) 0
 unfoldable pub formZero : Form → Bool
 formZero f = isZero (f .constant) && allZero (f .index) && allZero (f .parameter)
 
-unfoldable pub loopFieldsZero : Loop → Bool
-loopFieldsZero l = eqb (l .start) 0 && eqb (l .step) 0 && eqb (l .stride) 0 && formZero (l .lower) && formZero (l .upper)
+unfoldable pub skipZero : RawRecord → Bool
+skipZero r = eqb (r .skip) 0
+
+-- all fields of a loop, the skip among them
+unfoldable pub loopFieldsZero : RawRecord → Bool
+loopFieldsZero r = eqb (r .start) 0 && eqb (r .step) 0 && eqb (r .stride) 0 && formZero (r .lower) && formZero (r .upper) && skipZero r
 
 -- "3 also for a nonzero field that its kind does not have"
 unfoldable pub foreignFieldsZero : Kind → RawRecord → Bool
-foreignFieldsZero workKind r = loopFieldsZero (r .loopFields)
-foreignFieldsZero loopKind r = workFieldsZero r
-foreignFieldsZero endKind r = workFieldsZero r && loopFieldsZero (r .loopFields)
-foreignFieldsZero choiceKind r = workFieldsZero r && loopFieldsZero (r .loopFields)
-foreignFieldsZero nextArmKind r = workFieldsZero r && loopFieldsZero (r .loopFields)
+foreignFieldsZero workKind r = loopFieldsZero r
+foreignFieldsZero (loopKind false) r = workFieldsZero r && skipZero r
+foreignFieldsZero (loopKind true) r = workFieldsZero r
+foreignFieldsZero endKind r = workFieldsZero r && loopFieldsZero r
+foreignFieldsZero choiceKind r = workFieldsZero r && loopFieldsZero r
+foreignFieldsZero nextArmKind r = workFieldsZero r && loopFieldsZero r
+
+-- the fields of a loop that has a skip, or has none
+unfoldable pub loopIn : Bool → RawRecord → Loop
+loopIn hasSkip r = record {
+  start = r .start;
+  step = r .step;
+  stride = r .stride;
+  lower = r .lower;
+  upper = r .upper;
+  skip = skipWhere hasSkip (r .skip);
+}
 
 -- the record that the fields of its kind make
 unfoldable pub recordOf : Kind → RawRecord → Record
 recordOf workKind r = workRecord (r .least) (r .most)
-recordOf loopKind r = loopRecord (r .loopFields)
+recordOf (loopKind hasSkip) r = loopRecord (loopIn hasSkip r)
 recordOf endKind r = endRecord
 recordOf choiceKind r = choiceRecord
 recordOf nextArmKind r = nextArmRecord
@@ -69,8 +90,10 @@ unfoldable pub store : List ℕ → Result (List ℕ) → Written
 store buffer (ok bytes) = record { result = ok (length bytes); buffer = bytes ++ drop (length bytes) buffer }
 store buffer (refused number place) = record { result = refused number place; buffer = buffer }
 
--- document 01: the writer. Last 9, if the buffer is shorter than the sheet.
+-- 9: the buffer is shorter than the sheet of the records
+unfoldable pub fitSheet : List ℕ → List Record → Result (List ℕ)
+fitSheet buffer records = let sheet : List ℕ = sheetBytes records in require (leb (length sheet) (length buffer)) 9 0 (ok sheet)
+
+-- document 01: the writer, last 9
 unfoldable pub write : List RawRecord → ℕ → List ℕ → Written
-write entries count buffer =
-    store buffer (andThen (check entries count) λ records.
-    let sheet : List ℕ = sheetBytes records in require (leb (length sheet) (length buffer)) 9 0 (ok sheet))
+write entries count buffer = store buffer (andThen (check entries count) (fitSheet buffer))

@@ -8,13 +8,16 @@ use native.Mathlib.Numerals.{add-one}
 use native.Mathlib.Omega.{arith}
 use borrow.Author.Tests.{ne-eqb}
 use lib.Dec.{eqb}
+use Rattle.meaning.specs.Number.{unsigned16}
 use Rattle.meaning.specs.Record.{Kind, kindNumber, kindOf, Record, workRecord, loopRecord, endRecord, choiceRecord, nextArmRecord, kind}
 use Rattle.meaning.proofs.RecordBytes.{kindOf-kindNumber}
-use Rattle.records.proofs.ByKind.{by-kind}
+use Rattle.meaning.proofs.Logic.{true-is-not-false}
+use Rattle.records.specs.View.{isLoopKind, isLoop, skipIn}
+use Rattle.records.proofs.ByKind.{by-kind, loop-named, without-fields}
 use Rattle.layout.specs.Rows.{endRole, roleNumber, roleOfKind, roleOf, enclosingAt, loopRole}
 use Rattle.nest.specs.Walk.{numbersAfter, loopsAfter, recordsInside}
 use Rattle.nest.specs.Rows.{endNumber, innermost}
-use Rattle.nest.specs.Roles.{roleBy, roleOfByte, costBy, costIn, opens, openAfterRole, endOfRole, loopsAfterRole, enclosingAfterRole}
+use Rattle.nest.specs.Roles.{roleBy, roleOfByte, costBy, costIn, skipCostBy, skipCostIn, opens, openAfterRole, endOfRole, loopsAfterRole, enclosingAfterRole}
 use Rattle.nest.specs.Known.{InnersKnown}
 
 -- ---- by the kind's byte
@@ -27,32 +30,45 @@ pub role-of-record : (r : Record) → roleOfByte (kindNumber (kind r)) ≡ roleN
 unfolding roleOf
 role-of-record r = sym (role-by (kind r) refl)
 
-pub role-other : (byte : ℕ) → (byte ≡ 2 → ⊥) → (byte ≡ 3 → ⊥) → (byte ≡ 4 → ⊥) → (byte ≡ 5 → ⊥) → 0 ≡ roleOfByte byte
-unfolding roleOfByte roleBy roleNumber roleOfKind
+pub role-other : (byte : ℕ) → isLoop byte ≡ false → (byte ≡ 3 → ⊥) → (byte ≡ 4 → ⊥) → (byte ≡ 5 → ⊥) → 0 ≡ roleOfByte byte
+unfolding roleOfByte roleBy roleNumber roleOfKind isLoopKind
 role-other =
-    by-kind (λ (n : ℕ) (k : Option Kind). (n ≡ 2 → ⊥) → (n ≡ 3 → ⊥) → (n ≡ 4 → ⊥) → (n ≡ 5 → ⊥) → 0 ≡ roleBy k)
+    by-kind (λ (n : ℕ) (k : Option Kind). isLoopKind k ≡ false → (n ≡ 3 → ⊥) → (n ≡ 4 → ⊥) → (n ≡ 5 → ⊥) → 0 ≡ roleBy k)
     (λ _ _ _ _. refl)
-    (λ h _ _ _. absurd (h refl))
+    (λ h _ _ _. true-is-not-false h)
     (λ _ h _ _. absurd (h refl))
     (λ _ _ h _. absurd (h refl))
     (λ _ _ _ h. absurd (h refl))
+    (λ h _ _ _. true-is-not-false h)
     (λ n _ _ _ _ _. refl)
+
+pub role-loop : (byte : ℕ) → isLoop byte ≡ true → 1 ≡ roleOfByte byte
+unfolding roleOfByte roleBy roleNumber roleOfKind
+role-loop byte is = ap roleBy (sym (loop-named byte is))
 
 module _ (body : List ℕ) (at : ℕ) where
   pub cost-by : {byte : ℕ} (k : Kind) → byte ≡ kindNumber k → costBy (some k) body at ≡ costIn byte body at
   unfolding costIn
   cost-by k h = ap (λ o. costBy o body at) (sym (ap kindOf h ∙ kindOf-kindNumber k))
 
-  pub cost-other : (byte : ℕ) → (byte ≡ 1 → ⊥) → (byte ≡ 2 → ⊥) → 0 ≡ costIn byte body at
+  pub cost-loop : (byte : ℕ) → isLoop byte ≡ true → unsigned16 body at ≡ costIn byte body at
   unfolding costIn costBy
-  cost-other =
-      by-kind (λ (n : ℕ) (k : Option Kind). (n ≡ 1 → ⊥) → (n ≡ 2 → ⊥) → 0 ≡ costBy k body at)
-      (λ h _. absurd (h refl))
-      (λ _ h. absurd (h refl))
-      (λ _ _. refl)
-      (λ _ _. refl)
-      (λ _ _. refl)
-      (λ n _ _ _. refl)
+  cost-loop byte is = ap (λ o. costBy o body at) (sym (loop-named byte is))
+
+  pub cost-other : {byte : ℕ} → (byte ≡ 1 → ⊥) → isLoop byte ≡ false → 0 ≡ costIn byte body at
+  unfolding costIn costBy
+  cost-other = without-fields (λ (n : ℕ) (k : Option Kind). 0 ≡ costBy k body at) refl refl refl (λ n. refl)
+
+module _ (body : List ℕ) where
+  pub skip-loop : (byte : ℕ) → isLoop byte ≡ true → skipIn (eqb byte 6) body ≡ skipCostIn byte body
+  unfolding skipCostIn skipCostBy
+  skip-loop byte is = ap (λ o. skipCostBy o body) (sym (loop-named byte is))
+
+  pub skip-other : (byte : ℕ) → isLoop byte ≡ false → 0 ≡ skipCostIn byte body
+  unfolding skipCostIn skipCostBy isLoopKind
+  skip-other =
+      by-kind (λ (n : ℕ) (k : Option Kind). isLoopKind k ≡ false → 0 ≡ skipCostBy k body)
+      (λ _. refl) (λ h. true-is-not-false h) (λ _. refl) (λ _. refl) (λ _. refl) (λ h. true-is-not-false h) (λ n _ _. refl)
 
 -- ---- by its number
 

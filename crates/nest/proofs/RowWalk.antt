@@ -8,7 +8,7 @@ use native.Mathlib.Nat.{mod-eq-of-lt}
 use native.Mathlib.Numerals.{add-one}
 use lib.ListN.{drop, getD, length, length-drop, take, take-append-drop}
 use lib.Seq.{getD-take, length-take-le, paste, take-all, take-suc}
-use Rattle.meaning.specs.Record.{decodeRecord, kind, kindNumber, kindOf, loopDepth, loopRecord, openAfter, workRecord, sheetLength, Record, Open, endRecord, choiceRecord, nextArmRecord}
+use Rattle.meaning.specs.Record.{Kind, skipCycles, decodeRecord, kind, kindNumber, kindOf, loopDepth, loopRecord, openAfter, workRecord, sheetLength, Record, Open, endRecord, choiceRecord, nextArmRecord}
 use Rattle.meaning.specs.Reader.{bodyAt}
 use Rattle.meaning.specs.Limits.{recordLimit}
 use Rattle.meaning.proofs.Accepted.{InPlace}
@@ -18,13 +18,13 @@ use Rattle.sheet.specs.Nestings.{nestingOf, openAfterAs, openAfterKind}
 use Rattle.records.specs.View.{lengthOfKind}
 use Rattle.sheet.proofs.Openings.{depth-at-most}
 use Rattle.layout.specs.declared.rows.Row.{Row}
-use Rattle.layout.specs.Rows.{firstCost, roleNumber, roleOf, rowNumbers, secondCost, rowFrom, rowWidth}
+use Rattle.layout.specs.Rows.{firstCost, roleNumber, roleOf, rowNumbers, secondCost, skipCost, rowFrom, rowWidth}
 use Rattle.layout.specs.Numbers.{joined, storedIn}
 use Rattle.layout.proofs.Reading.{blankRow, row-number, row-next}
 use Rattle.layout.proofs.Storing.{stored-none}
 use Rattle.nest.specs.Known.{AtPosition, InnersKnown, RecordAt}
 use Rattle.nest.specs.Rows.{Position, endNumber, innermost, rowAt, rowsOf, sheetStart, rowsStored}
-use Rattle.nest.specs.Roles.{costBy, costIn, endOfRole, roleOfByte, enclosingAfterRole, loopsAfterRole}
+use Rattle.nest.specs.Roles.{costBy, costIn, endOfRole, roleOfByte, enclosingAfterRole, loopsAfterRole, skipCostBy, skipCostIn}
 use Rattle.nest.specs.Walk.{numbersAfter}
 use Rattle.sheet.specs.Sheets.{recordsOf}
 use Rattle.nest.proofs.Openers.{OpenerRows, open-rows}
@@ -34,7 +34,7 @@ use Rattle.nest.proofs.Roles.{end-by-role, enclosing-by-role, loops-by-
 use Rattle.nest.proofs.RowsOf.{end-inside, rows-length, row-at}
 use Rattle.nest.proofs.Places.{in-place-through, opens-in-place, opens-few}
 use Rattle.nest.proofs.Walks.{numbersThrough, opens-one-more, opensThrough, loops-append, loopsThrough, numbers-one-more, positionAfter}
-use mathlib.Core.Option.{some}
+use mathlib.Core.Option.{Option, some}
 
 -- the numbers of the open records are those of records before
 Below : ℕ → List ℕ → Type 0
@@ -102,7 +102,7 @@ inners-known before rs n h few = record {
 first-cost : (r : Record) (body : List ℕ) → decodeRecord (kind r) body ≡ r → costIn (kindNumber (kind r)) body 0 ≡ firstCost r
 unfolding costIn costBy kindOf kindNumber kind decodeRecord firstCost
 first-cost (workRecord least most) body e = cc
-first-cost (loopRecord l) body e = ap firstCost e
+first-cost (loopRecord l) body e = ap (λ (o : Option Kind). costBy o body 0) (kindOf-kindNumber (kind (loopRecord l))) ∙ ap firstCost e
 first-cost endRecord body e = refl
 first-cost choiceRecord body e = refl
 first-cost nextArmRecord body e = refl
@@ -110,21 +110,30 @@ first-cost nextArmRecord body e = refl
 second-cost : (r : Record) (body : List ℕ) → decodeRecord (kind r) body ≡ r → costIn (kindNumber (kind r)) body 2 ≡ secondCost r
 unfolding costIn costBy kindOf kindNumber kind decodeRecord secondCost
 second-cost (workRecord least most) body e = cc
-second-cost (loopRecord l) body e = ap secondCost e
+second-cost (loopRecord l) body e = ap (λ (o : Option Kind). costBy o body 2) (kindOf-kindNumber (kind (loopRecord l))) ∙ ap secondCost e
 second-cost endRecord body e = refl
 second-cost choiceRecord body e = refl
 second-cost nextArmRecord body e = refl
 
+-- a loop's skip is its own, or its start
+skip-cost : (r : Record) (body : List ℕ) → decodeRecord (kind r) body ≡ r → skipCostIn (kindNumber (kind r)) body ≡ skipCost r
+unfolding skipCostIn skipCostBy kindOf kindNumber kind decodeRecord skipCost skipCycles
+skip-cost (workRecord least most) body e = refl
+skip-cost (loopRecord l) body e = ap (λ (o : Option Kind). skipCostBy o body) (kindOf-kindNumber (kind (loopRecord l))) ∙ ap skipCost e
+skip-cost endRecord body e = refl
+skip-cost choiceRecord body e = refl
+skip-cost nextArmRecord body e = refl
+
 -- the row of a record, from what is read at its offset
 pub row-is : {sheet : List ℕ} {count n at : ℕ} (g : RecordAt sheet count n at) {byte : ℕ} → byte ≡ getD sheet at 0 → {body : List ℕ} → body ≡ bodyAt sheet at →
-    {role first second end loops enclosing frame depth offset : ℕ} {here : Nesting} → role ≡ roleOfByte byte →
-    first ≡ costIn byte body 0 → second ≡ costIn byte body 2 → end ≡ endOfRole role n (drop (n + 1) (recordsOf sheet)) % 2 ^ 16 →
+    {role first second skip end loops enclosing frame depth offset : ℕ} {here : Nesting} → role ≡ roleOfByte byte →
+    first ≡ costIn byte body 0 → second ≡ costIn byte body 2 → skip ≡ skipCostIn byte body → end ≡ endOfRole role n (drop (n + 1) (recordsOf sheet)) % 2 ^ 16 →
     frame ≡ here .size % 2 ^ 16 → depth ≡ here .depth % 2 ^ 16 → offset ≡ at % 2 ^ 16 →
     (p : Position) → AtPosition p n at loops enclosing here →
-    record { role = role; first = first; second = second; end = end; enclosing = enclosing; frame = frame; depth = depth; loops = loops; offset = offset }
+    record { role = role; first = first; second = second; end = end; enclosing = enclosing; frame = frame; depth = depth; loops = loops; offset = offset; skip = skip }
     ≡ rowAt p (getD (recordsOf sheet) n endRecord) (drop (n + 1) (recordsOf sheet))
 unfolding rowAt nestingOf
-row-is {sheet} {count} {n} {at} g {byte} b {body} bs {role} {first} {second} {end} {loops} {enclosing} {frame} {depth} {offset} {here} r f s e fr de o p q =
+row-is {sheet} {count} {n} {at} g {byte} b {body} bs {role} {first} {second} {skip} {end} {loops} {enclosing} {frame} {depth} {offset} {here} r f s k e fr de o p q =
     let this : Record = getD (recordsOf sheet) n endRecord in
     let rest : List Record = drop (n + 1) (recordsOf sheet) in
     let number : byte ≡ kindNumber (kind this) = b ∙ kind-read g in
@@ -132,6 +141,7 @@ row-is {sheet} {count} {n} {at} g {byte} b {body} bs {role} {first} {second} {en
     let is-role : role ≡ roleNumber (roleOf this) = role-read g b r in
     let one : first ≡ firstCost this = f ∙ ap₂ (λ (k : ℕ) (l : List ℕ). costIn k l 0) number bs ∙ first-cost this (bodyAt sheet at) decoded in
     let two : second ≡ secondCost this = s ∙ ap₂ (λ (k : ℕ) (l : List ℕ). costIn k l 2) number bs ∙ second-cost this (bodyAt sheet at) decoded in
+    let passed : skip ≡ skipCost this = k ∙ ap₂ skipCostIn number bs ∙ skip-cost this (bodyAt sheet at) decoded in
     let size : length rest ≡ length (recordsOf sheet) - (n + 1) = length-drop (n + 1) (recordsOf sheet) in
     let small : endNumber n this rest < 2 ^ 16 = omega (arith, end-inside this rest n, size, few-records sheet, present g) in
     let last : end ≡ endNumber (p .number) this rest =
@@ -152,6 +162,7 @@ row-is {sheet} {count} {n} {at} g {byte} b {body} bs {role} {first} {second} {en
       depth = deep t;
       loops = q .loopsAre t;
       offset = stands t;
+      skip = passed t;
     }
 
 -- ---- the rows laid so far

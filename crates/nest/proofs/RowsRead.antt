@@ -9,8 +9,8 @@ use Rattle.meaning.specs.Record.{Loop, Open, Record, loopDepth, loopRecord, she
 use Rattle.meaning.specs.Limits.{depthLimit, openLimit, recordLimit}
 use Rattle.meaning.proofs.Accepted.{InPlace}
 use Rattle.layout.specs.declared.rows.Row.{Row}
-use Rattle.layout.specs.Rows.{firstCost, numberIn, roleNumber, roleOf, rowNumbers, rowWidth, secondCost}
-use Rattle.layout.specs.Rows.{depthAt, enclosingAt, endAt, firstAt, frameAt, loopAt, loopsBeforeAt, offsetAt, roleAt, secondAt}
+use Rattle.layout.specs.Rows.{firstCost, numberIn, roleNumber, roleOf, rowNumbers, rowWidth, secondCost, skipCost}
+use Rattle.layout.specs.Rows.{depthAt, enclosingAt, endAt, firstAt, frameAt, loopAt, loopsBeforeAt, offsetAt, roleAt, secondAt, skipAt}
 use Rattle.layout.specs.Loops.{loopLimit}
 use Rattle.layout.proofs.Reading.{blankRow, row-number}
 use Rattle.nest.specs.Rows.{endNumber, innermost, rowAt, rowsOf, rowsStored, sheetStart}
@@ -42,6 +42,10 @@ module _ {rows : List ℕ} (xs : List Record) (r : Record) (ys : List Record) (h
   pub second-reads : secondAt rows (length xs) ≡ secondCost r
   unfolding rowNumbers rowAt
   second-reads = reads 2 (omega arith)
+
+  pub skip-reads : skipAt rows (length xs) ≡ skipCost r
+  unfolding rowNumbers rowAt
+  skip-reads = reads 9 (omega arith)
 
   pub end-reads : endAt rows (length xs) ≡ endNumber (length xs) r ys % recordLimit
   unfolding rowNumbers rowAt

@@ -6,6 +6,7 @@ use Prim.Native.Nat.{ℕ, _+_, _-_}
 use lib.Dec.{eqb}
 use Rattle.meaning.specs.Number.{unsigned16}
 use Rattle.meaning.specs.Record.{Kind, workKind, loopKind, endKind, choiceKind, nextArmKind, kindOf, Record}
+use Rattle.records.specs.View.{skipIn}
 use Rattle.layout.specs.Rows.{straightRole, loopRole, endRole, choiceRole, roleNumber, roleOfKind, enclosingAt}
 use Rattle.nest.specs.Walk.{recordsInside}
 
@@ -20,7 +21,7 @@ roleOfByte kind = roleBy (kindOf kind)
 -- the cost at an offset of the body: only works and loops have costs
 unfoldable pub costBy : Option Kind → List ℕ → ℕ → ℕ
 costBy (some workKind) body at = unsigned16 body at
-costBy (some loopKind) body at = unsigned16 body at
+costBy (some (loopKind hasSkip)) body at = unsigned16 body at
 costBy (some endKind) body at = 0
 costBy (some choiceKind) body at = 0
 costBy (some nextArmKind) body at = 0
@@ -28,6 +29,18 @@ costBy none body at = 0
 
 unfoldable pub costIn : ℕ → List ℕ → ℕ → ℕ
 costIn kind body at = costBy (kindOf kind) body at
+
+-- what a loop costs where it makes no trip
+unfoldable pub skipCostBy : Option Kind → List ℕ → ℕ
+skipCostBy (some workKind) body = 0
+skipCostBy (some (loopKind hasSkip)) body = skipIn hasSkip body
+skipCostBy (some endKind) body = 0
+skipCostBy (some choiceKind) body = 0
+skipCostBy (some nextArmKind) body = 0
+skipCostBy none body = 0
+
+unfoldable pub skipCostIn : ℕ → List ℕ → ℕ
+skipCostIn kind body = skipCostBy (kindOf kind) body
 
 -- a record with this role opens something
 abbrev pub opens : ℕ → Bool

@@ -5,7 +5,7 @@ use lib.ListN.{length}
 use Rattle.meaning.specs.Record.{Record, workRecord, loopRecord, endRecord, choiceRecord, nextArmRecord, recordLength, Open, loopDepth}
 use Rattle.layout.specs.declared.rows.Row.{Row}
 use Rattle.layout.specs.Numbers.{joined}
-use Rattle.layout.specs.Rows.{roleNumber, roleOf, firstCost, secondCost, rowNumbers}
+use Rattle.layout.specs.Rows.{roleNumber, roleOf, firstCost, secondCost, skipCost, rowNumbers}
 use Rattle.nest.specs.Walk.{opensAfter, numbersAfter, loopsAfter, recordsInside}
 
 -- the number of the end of the record with the number n, a loop or a choice, before the records rs; 0 of another record
@@ -54,6 +54,7 @@ rowAt p r rs = record {
   depth = loopDepth (p .opens);
   loops = p .loops;
   offset = p .offset;
+  skip = skipCost r;
 }
 
 -- from a position on

@@ -8,7 +8,7 @@ ghost use Rattle.layout.specs.Numbers.{storedIn};
 ghost use Rattle.sheet.specs.Sheets.{recordsOf};
 ghost use Rattle.nest.specs.Rows.{Position, rowAt, rowsStored};
 ghost use Rattle.nest.specs.Known.{RecordAt, RecordBefore, AtPosition};
-ghost use Rattle.nest.specs.Roles.{roleOfByte, costIn, openAfterRole, endOfRole, loopsAfterRole, enclosingAfterRole};
+ghost use Rattle.nest.specs.Roles.{roleOfByte, costIn, skipCostIn, openAfterRole, endOfRole, loopsAfterRole, enclosingAfterRole};
 use encoding::number::byte_at;
 use encoding::number::unsigned16_at;
 use layout::narrow;
@@ -22,6 +22,8 @@ use layout::rows::STRAIGHT;
 use layout::rows::enclosing_at;
 use layout::rows::put_row;
 use records::body_length;
+use records::is_loop;
+use records::loops::Loop;
 use sheet::head::body_at;
 use sheet::nesting::Nesting;
 
@@ -29,7 +31,7 @@ use sheet::nesting::Nesting;
 fn role_of(kind: u8) -> u16
     ensures { λ r. ⌜ r ≡ roleOfByte kind ⌝ }
 {
-    if kind == records::LOOP {
+    if is_loop(kind) {
         return LOOP;
     }
     if kind == records::END {
@@ -51,8 +53,18 @@ fn cost(kind: u8, body: &[u8], at: usize) -> u16
     if kind == records::WORK {
         return unsigned16_at(body, at);
     }
-    if kind == records::LOOP {
+    if is_loop(kind) {
         return unsigned16_at(body, at);
+    }
+    0
+}
+
+// What a loop costs where it makes no trip; 0 of another record.
+fn skip_cost(kind: u8, body: &[u8]) -> u16
+    ensures { λ r. ⌜ r ≡ skipCostIn kind (now (body .entry)) ⌝ }
+{
+    if is_loop(kind) {
+        return Loop::skip_cycles(body, kind == records::SKIP_LOOP);
     }
     0
 }
@@ -116,6 +128,7 @@ fn row_of(
     let body = body_at(sheet, at);
     let first = cost(kind, body, 0);
     let second = cost(kind, body, 2);
+    let skip = skip_cost(kind, body);
     let role = role_of(kind);
     let end = end_of(sheet, count, number, at + (1 + body.len()), role);
     Row {
@@ -128,6 +141,7 @@ fn row_of(
         depth: narrow(here.depth),
         loops: loops,
         offset: narrow(at),
+        skip: skip,
     }
 }
 

@@ -18,7 +18,7 @@ use Rattle.sheet.specs.declared.refusal.Refusal.{Refusal}
 use Rattle.sheet.specs.declared.reader.ReadAnswer.the-variants as answer
 use Rattle.sheet.specs.Answers.{countResult, counted}
 use Rattle.sheet.specs.Sheets.{recordsIn, recordsOf}
-use Rattle.sheet.proofs.SheetRecords.{records-in-place}
+use Rattle.sheet.proofs.SheetRecords.{records-in-place, counted-refused}
 use Rattle.layout.specs.Numbers.{storedIn, joined}
 use Rattle.layout.proofs.Storing.{stored-none}
 use Rattle.nest.specs.Rows.{rowsOf, rowsStored, sheetStart, rowsFrom}
@@ -42,12 +42,7 @@ module _ (sheet : List ℕ) (a : ReadAnswer) (is : countResult a ≡ counted (re
       go (refused number place) h = refused-is-not-ok (sym h)
 
   pub refusal-read : (r : Refusal) → a ≡ answer.Refused r → read sheet ≡ refused (r .number) (r .offset)
-  unfolding counted
-  refusal-read r e = go (read sheet) (sym (ap countResult e) ∙ is)
-    where
-      go : (x : Result (List Record)) → refused (r .number) (r .offset) ≡ counted x → x ≡ refused (r .number) (r .offset)
-      go (ok rs) h = refused-is-not-ok h
-      go (refused number place) h = let p : number ≡ r .number = cc in let q : place ≡ r .offset = cc in λ i. refused (p i) (q i)
+  refusal-read r e = counted-refused (read sheet) (r .number) (r .offset) (sym is ∙ ap countResult e)
 
 -- ---- the plan as it is made: the reader, then the walk, then refusal 6
 

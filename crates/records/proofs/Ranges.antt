@@ -14,8 +14,9 @@ use lib.Dec.{leb, ltb, eqb}
 use Rattle.meaning.specs.Limits.{costLimit, strideLimit, constantHalf, factorHalf}
 use Rattle.meaning.specs.Number.{decodeSigned, hasPattern, unsigned16, signed16, signed8}
 use Rattle.meaning.specs.Form.{formAt, isZero, allZero, factorsFit, formInRange}
-use Rattle.meaning.specs.Record.{workKind, loopKind, decodeRecord, Open, loopDepth, fieldsInRange}
+use Rattle.meaning.specs.Record.{workKind, loopKind, skipCycles, decodeRecord, Open, loopDepth, fieldsInRange}
 use Rattle.meaning.proofs.Accepted.{loop-in-range}
+use Rattle.records.specs.View.{skipIn}
 use Rattle.records.proofs.Tests.{and-pass, and-stop, refuted}
 
 -- ---- factors
@@ -107,9 +108,9 @@ work-fits os body p q = λ i. leb (p i) (q i) && leb (q i) costLimit
 
 -- ---- a loop
 
-module _ (os : List Open) {depth : ℕ} (deep : loopDepth os ≡ depth) (body : List ℕ) where
+module _ (os : List Open) {depth : ℕ} (deep : loopDepth os ≡ depth) (body : List ℕ) (hasSkip : Bool) where
   abbrev inRange : Bool
-  inRange = fieldsInRange os (decodeRecord loopKind body)
+  inRange = fieldsInRange os (decodeRecord (loopKind hasSkip) body)
 
   pub cost-over : {start step : ℕ} → start ≡ unsigned16 body 0 → step ≡ unsigned16 body 2 → (costLimit < start) ⊎ (costLimit < step) → false ≡ inRange
   unfolding decodeRecord
@@ -118,6 +119,10 @@ module _ (os : List Open) {depth : ℕ} (deep : loopDepth os ≡ depth) (body : 
       let r = loop-in-range os _ t in
       ⊎-elim (λ a. omega (arith, r .startSmall)) (λ a. omega (arith, r .stepSmall)) h
 
+  pub skip-over : {skip : ℕ} → skip ≡ skipIn hasSkip body → costLimit < skip → false ≡ inRange
+  unfolding decodeRecord skipCycles
+  skip-over p h = refuted inRange λ t. omega (arith, loop-in-range os _ t .skipSmall)
+
   pub stride-off : {stride : ℕ} → stride ≡ unsigned16 body 4 → (stride < 1) ⊎ (strideLimit < stride) → false ≡ inRange
   unfolding decodeRecord
   stride-off p h =
@@ -125,16 +130,17 @@ module _ (os : List Open) {depth : ℕ} (deep : loopDepth os ≡ depth) (body : 
       let r = loop-in-range os _ t in
       ⊎-elim (λ a. omega (arith, r .moves)) (λ a. omega (arith, r .strideSmall)) h
 
-  module _ {start step stride : ℕ} (p : start ≡ unsigned16 body 0) (q : step ≡ unsigned16 body 2) (r : stride ≡ unsigned16 body 4)
-      (a : start ≤ costLimit) (b : step ≤ costLimit) (l : 1 ≤ stride) (h : stride ≤ strideLimit) where
+  module _ {start step skip stride : ℕ} (p : start ≡ unsigned16 body 0) (q : step ≡ unsigned16 body 2) (s : skip ≡ skipIn hasSkip body)
+      (r : stride ≡ unsigned16 body 4) (a : start ≤ costLimit) (b : step ≤ costLimit) (c : skip ≤ costLimit) (l : 1 ≤ stride) (h : stride ≤ strideLimit) where
     factors-left : enclosed body 8 depth && enclosed body 17 depth ≡ inRange
-    unfolding fieldsInRange decodeRecord formAt
+    unfolding fieldsInRange decodeRecord formAt skipCycles
     factors-left =
-        sym (λ i. le-leb start costLimit a i && le-leb step costLimit b i && le-leb 1 stride l i && le-leb stride strideLimit h i
-        && enclosed body 8 depth && enclosed body 17 depth)
+        sym ((λ i. le-leb start costLimit a i && le-leb step costLimit b i && le-leb 1 stride l i && le-leb stride strideLimit h i
+        && enclosed body 8 depth && enclosed body 17 depth && le-leb skip costLimit c i) ∙ and-true (enclosed body 8 depth && enclosed body 17 depth))
         ∙ (λ i. leb (p i) costLimit && leb (q i) costLimit && leb 1 (r i) && leb (r i) strideLimit
         && (ap (λ (d : ℕ). enclosed body 8 d) (sym deep) ∙ sym (decoded-form-in-range (loopDepth os) body 6)) i
-        && (ap (λ (d : ℕ). enclosed body 17 d) (sym deep) ∙ sym (decoded-form-in-range (loopDepth os) body 15)) i)
+        && (ap (λ (d : ℕ). enclosed body 17 d) (sym deep) ∙ sym (decoded-form-in-range (loopDepth os) body 15)) i
+        && leb (s i) costLimit)
 
     pub lower-bad : {first : Bool} → first ≡ enclosed body 8 depth → first ≡ false → first ≡ inRange
     lower-bad d f = d ∙ and-stop (enclosed body 8 depth) (enclosed body 17 depth) (sym d ∙ f) factors-left

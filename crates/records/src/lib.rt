@@ -3,7 +3,7 @@ pub mod loops;
 pub mod work;
 
 ghost use mathlib.Core.Path.{_≡_};
-ghost use Rattle.records.specs.View.{blankRecord, decoded, lengthOfKind};
+ghost use Rattle.records.specs.View.{isKind, isLoop, blankRecord, decoded, lengthOfKind};
 use crate::loops::Loop;
 use crate::work::Work;
 
@@ -17,12 +17,15 @@ pub const CHOICE: u8 = 4;
 
 pub const NEXT_ARM: u8 = 5;
 
+// A loop with a skip of its own.
+pub const SKIP_LOOP: u8 = 6;
+
 pub const MAX_RECORDS: usize = 64;
 
 pub const MAX_OPEN: usize = 8;
 
-// The longest record is a loop: its kind and its body.
-pub const MAX_RECORD_LENGTH: usize = 1 + Loop::BODY_LENGTH;
+// The longest record is a loop with a skip: its kind and its body.
+pub const MAX_RECORD_LENGTH: usize = 1 + Loop::SKIP_BODY_LENGTH;
 
 pub const MAX_SHEET_LENGTH: usize = MAX_RECORDS * MAX_RECORD_LENGTH;
 
@@ -58,13 +61,27 @@ impl Record {
             record.work = work;
             return record;
         }
-        if kind == LOOP {
-            let looping = Loop::decode(body);
+        if is_loop(kind) {
+            let looping = Loop::decode(body, kind == SKIP_LOOP);
             record.looping = looping;
             return record;
         }
         record
     }
+}
+
+// Whether a number is that of a kind.
+pub fn is_kind(number: u8) -> bool
+    ensures { λ r. ⌜ r ≡ isKind number ⌝ }
+{
+    WORK <= number && number <= SKIP_LOOP
+}
+
+// Whether a kind is one of the two kinds of loops.
+pub fn is_loop(kind: u8) -> bool
+    ensures { λ r. ⌜ r ≡ isLoop kind ⌝ }
+{
+    kind == LOOP || kind == SKIP_LOOP
 }
 
 // The length of a kind's body; 0 for a number that is no kind.
@@ -76,6 +93,9 @@ pub fn body_length(kind: u8) -> usize
     }
     if kind == LOOP {
         return Loop::BODY_LENGTH;
+    }
+    if kind == SKIP_LOOP {
+        return Loop::SKIP_BODY_LENGTH;
     }
     0
 }

@@ -1,33 +1,37 @@
-// The loop kind: its fields, and their ranges and the largest ceiling as named constants.
+// The two kinds of loops: their fields, and their ranges and the largest ceiling as named constants.
 ghost use mathlib.Core.Path.{_≡_};
 ghost use mathlib.Core.List.{List, [], _∷_};
-ghost use mathlib.Core.Bool.{_||_};
+ghost use mathlib.Core.Bool.{false, _||_};
 ghost use Prim.Native.Nat.{_+_, _<_, _^_};
 ghost use lib.ListN.{drop};
-ghost use Rattle.meaning.specs.Number.{signed8};
+ghost use Rattle.meaning.specs.Number.{signed8, unsigned16};
 ghost use Rattle.meaning.specs.Form.{isZero, allZero, formAt};
-ghost use Rattle.meaning.specs.Record.{loopKind, decodeRecord, Open, loopDepth, fieldsInRange};
+ghost use Rattle.meaning.specs.Record.{loopKind, skipWhere, skipOr, decodeRecord, Open, loopDepth, fieldsInRange};
 ghost use Rattle.meaning.specs.Record as M;
 ghost use Rattle.form.specs.Packed.{formOf};
-ghost use Rattle.records.specs.View.{blankLoop, loopOf};
+ghost use Rattle.records.specs.View.{blankLoop, loopOf, skipIn};
 use encoding::number::byte_at;
 use encoding::number::signed8_at;
 use encoding::number::signed16_at;
 use encoding::number::unsigned16_at;
 use form::packed::PackedForm;
 
+// Of kind 2, which has no skip of its own, the field is 0.
 pub struct Loop {
     pub start: u16,
     pub step: u16,
     pub stride: u16,
     pub lower: PackedForm,
     pub upper: PackedForm,
+    pub skip: u16,
 }
 
-// Where the two forms stand in a body, and the factors of their indexes.
+// Where the two forms and the skip stand in a body, and the factors of the forms' indexes.
 const LOWER: usize = 6;
 
 const UPPER: usize = 15;
+
+const SKIP: usize = 24;
 
 const LOWER_FACTORS: usize = LOWER + 2;
 
@@ -70,6 +74,16 @@ fn factors_enclosed(body: &[u8], at: usize, depth: usize) -> bool
         && (factor_allowed(body, at + 1, 1 < depth) && factor_allowed(body, at + 2, 2 < depth))
 }
 
+// The skip in a body that has one, or another number.
+fn skip_or(body: &[u8], skips: bool, other: u16) -> u16
+    ensures { λ r. ⌜ r ≡ skipOr (skipWhere skips (unsigned16 (now (body .entry)) 24)) other ⌝ }
+{
+    if skips {
+        return unsigned16_at(body, SKIP);
+    }
+    other
+}
+
 impl Loop {
     pub const MAX_COST: u16 = 4095;
 
@@ -81,6 +95,8 @@ impl Loop {
 
     pub const BODY_LENGTH: usize = 24;
 
+    pub const SKIP_BODY_LENGTH: usize = 26;
+
     pub fn blank() -> Loop
         ensures { λ r. ⌜ r ≡ blankLoop ⌝ }
     {
@@ -91,30 +107,46 @@ impl Loop {
             stride: 0,
             lower: form,
             upper: form,
+            skip: 0,
         }
     }
 
-    pub fn decode(body: &[u8]) -> Loop
-        ensures { λ r. ⌜ M.loopRecord (loopOf r) ≡ decodeRecord loopKind (now (body .entry)) ⌝ }
+    // The fields of a body, which has a skip or has none.
+    pub fn decode(body: &[u8], skips: bool) -> Loop
+        ensures fields { λ r. ⌜ M.loopRecord (loopOf skips r) ≡ decodeRecord (loopKind skips) (now (body .entry)) ⌝ }
+        ensures blank { λ r. ⌜ (skips ≡ false → r .skip ≡ 0) ⌝ }
     {
         let lower = form_at(body, LOWER);
         let upper = form_at(body, UPPER);
+        let skip = skip_or(body, skips, 0);
         Loop {
             start: unsigned16_at(body, 0),
             step: unsigned16_at(body, 2),
             stride: unsigned16_at(body, 4),
             lower: lower,
             upper: upper,
+            skip: skip,
         }
     }
 
+    // What the loop costs where it makes no trip: its skip, or its start where it has none.
+    pub fn skip_cycles(body: &[u8], skips: bool) -> u16
+        ensures { λ r. ⌜ r ≡ skipIn skips (now (body .entry)) ⌝ }
+    {
+        skip_or(body, skips, unsigned16_at(body, 0))
+    }
+
     // 3: whether the fields in a body are in their ranges, `depth` loops being around it.
-    pub fn in_range(body: &[u8], depth: usize) -> bool
-        ensures { λ r. ⌜ ((os : List Open) → loopDepth os ≡ depth → r ≡ fieldsInRange os (decodeRecord loopKind (now (body .entry)))) ⌝ }
+    pub fn in_range(body: &[u8], skips: bool, depth: usize) -> bool
+        ensures { λ r. ⌜ ((os : List Open) → loopDepth os ≡ depth → r ≡ fieldsInRange os (decodeRecord (loopKind skips) (now (body .entry)))) ⌝ }
     {
         let start = unsigned16_at(body, 0);
         let step = unsigned16_at(body, 2);
         if Loop::MAX_COST < start || Loop::MAX_COST < step {
+            return false;
+        }
+        let skip = Loop::skip_cycles(body, skips);
+        if Loop::MAX_COST < skip {
             return false;
         }
         let stride = unsigned16_at(body, 4);

@@ -15,41 +15,34 @@ use lib.Seq.{drop-cons}
 use types.Run.{OneOf}
 use denote.Enum.Declared.{tagOf}
 use Rattle.sheet.proofs.head.HeadAnswer.{the-type}
-use Rattle.meaning.specs.Record.{Kind, workKind, loopKind, endKind, choiceKind, nextArmKind, kindOf, bodyLength}
+use Rattle.meaning.specs.Record.{Kind, kindOf, bodyLength}
 use Rattle.meaning.specs.Reader.{Result, ok, refused, require, orRefuse, andThen, Head, headOf, headAt, bodyOf, bodyAt}
-use Rattle.meaning.proofs.Logic.{none-is-not-some, ok-injective, andThen-ok, require-ok, orRefuse-ok}
+use Rattle.meaning.proofs.Logic.{none-is-not-some, true-is-not-false, ok-injective, andThen-ok, require-ok, orRefuse-ok}
 use Rattle.sheet.specs.declared.head.Head as D
 use Rattle.sheet.specs.declared.head.HeadAnswer.{HeadAnswer}
 use Rattle.sheet.specs.declared.head.HeadAnswer.the-variants.{Found, End, Refused}
 use Rattle.sheet.specs.declared.refusal.Refusal.{Refusal}
 use Rattle.sheet.specs.Answers.{headResult}
-use Rattle.records.specs.View.{lengthOf, lengthOfKind}
-use Rattle.records.proofs.ByKind.{by-kind}
+use Rattle.records.specs.View.{isSomeKind, isKind, lengthOf, lengthOfKind}
 
 -- ---- the kind of a number
 
--- only 1 to 5 name a kind
-pub no-kind : (n : ℕ) → (0 < n → n < 6 → ⊥) → kindOf n ≡ none
-no-kind =
-    by-kind (λ (n : ℕ) (k : Option Kind). (0 < n → n < 6 → ⊥) → k ≡ none)
-    (λ h. absurd (h (omega arith) (omega arith)))
-    (λ h. absurd (h (omega arith) (omega arith)))
-    (λ h. absurd (h (omega arith) (omega arith)))
-    (λ h. absurd (h (omega arith) (omega arith)))
-    (λ h. absurd (h (omega arith) (omega arith)))
-    (λ n h _. refl)
+-- what is no kind's number names none
+pub no-kind : (n : ℕ) → isKind n ≡ false → kindOf n ≡ none
+no-kind n e = go (kindOf n) e
+  where
+    go : (k : Option Kind) → isSomeKind k ≡ false → k ≡ none
+    go none h = refl
+    go (some k) h = true-is-not-false (unfold isSomeKind in h)
 
 -- a kind with this number, and its body's length
-pub some-kind : (n : ℕ) → 0 < n → n < 6 → (k : Kind) × (kindOf n ≡ some k) × (lengthOfKind n ≡ bodyLength k)
-unfolding lengthOfKind lengthOf
-some-kind =
-    by-kind (λ (n : ℕ) (o : Option Kind). 0 < n → n < 6 → (k : Kind) × (o ≡ some k) × (lengthOf o ≡ bodyLength k))
-    (λ _ _. (workKind, refl, refl))
-    (λ _ _. (loopKind, refl, refl))
-    (λ _ _. (endKind, refl, refl))
-    (λ _ _. (choiceKind, refl, refl))
-    (λ _ _. (nextArmKind, refl, refl))
-    (λ n h p q. absurd (h p q))
+pub some-kind : (n : ℕ) → isKind n ≡ true → (k : Kind) × (kindOf n ≡ some k) × (lengthOfKind n ≡ bodyLength k)
+unfolding lengthOfKind
+some-kind n e = go (kindOf n) refl e
+  where
+    go : (o : Option Kind) → kindOf n ≡ o → isSomeKind o ≡ true → (k : Kind) × (kindOf n ≡ some k) × (lengthOf (kindOf n) ≡ bodyLength k)
+    go none is h = true-is-not-false (sym (unfold isSomeKind in h))
+    go (some k) is h = (k, is, (unfold lengthOf in ap lengthOf is))
 
 -- ---- the head
 
@@ -78,14 +71,14 @@ module _ (sheet : List ℕ) (at : ℕ) where
     unfolding headOf
     with-kind e = there ∙ ap (λ (o : Option Kind). andThen (orRefuse o 2 at) λ x. with-body (bodyLength x)) e
 
-    pub head-no-kind : (0 < kind → kind < 6 → ⊥) → refused 2 at ≡ headAt sheet at
+    pub head-no-kind : isKind kind ≡ false → refused 2 at ≡ headAt sheet at
     unfolding andThen orRefuse
     head-no-kind h = sym (with-kind (no-kind kind h))
 
-    module _ {n : ℕ} (long : n ≡ lengthOfKind kind) (above : 0 < kind) (below : kind < 6) where
+    module _ {n : ℕ} (long : n ≡ lengthOfKind kind) (known : isKind kind ≡ true) where
       with-length : headAt sheet at ≡ with-body n
       unfolding andThen orRefuse
-      with-length = let k = some-kind kind above below in with-kind (k .1) ∙ ap with-body (sym (long ∙ k .2))
+      with-length = let k = some-kind kind known in with-kind (k .1) ∙ ap with-body (sym (long ∙ k .2))
 
       pub head-short : length sheet - at - 1 < n → refused 1 at ≡ headAt sheet at
       unfolding require

@@ -12,8 +12,8 @@ use lib.Dec.{leb}
 use Rattle.meaning.specs.Limits.{costLimit, strideLimit}
 use Rattle.meaning.specs.Form.{formInRange}
 use Rattle.meaning.specs.Record.{Kind, workKind, loopKind, endKind, choiceKind, nextArmKind, kindOf, bodyLength, recordLength, kind, decodeRecord}
-use Rattle.meaning.specs.Record.{Record, workRecord, loopRecord, endRecord, choiceRecord, nextArmRecord, Open, openLoop, loopDepth, fieldsInRange, openAfter}
-use Rattle.meaning.specs.Reader.{Result, ok, refused, require, orRefuse, andThen, Accepted, accept, readRecord, Head, headOf, headAt}
+use Rattle.meaning.specs.Record.{skipCycles, Record, workRecord, loopRecord, endRecord, choiceRecord, nextArmRecord, Open, openLoop, loopDepth, fieldsInRange, openAfter}
+use Rattle.meaning.specs.Reader.{readRecordOf, Result, ok, refused, require, orRefuse, andThen, Accepted, accept, readRecord, Head, headOf, headAt}
 use Rattle.meaning.proofs.Logic.{refused-is-not-ok, true-is-not-false}
 use Rattle.meaning.proofs.Accepted.{kind-decodeRecord}
 use Rattle.meaning.proofs.RoundTrip.{readRecord-accept}
@@ -30,7 +30,7 @@ use Rattle.sheet.proofs.Heads.{head-there, HeadStands}
 open-by-kind : (os : List Open) (k : Kind) (body : List ℕ) → openAfter os (decodeRecord k body) ≡ openAfter os (decodeRecord k [])
 unfolding openAfter decodeRecord
 open-by-kind os workKind body = refl
-open-by-kind os loopKind body = refl
+open-by-kind os (loopKind hasSkip) body = refl
 open-by-kind os endKind body = refl
 open-by-kind os choiceKind body = refl
 open-by-kind os nextArmKind body = refl
@@ -93,7 +93,7 @@ unfolding fieldsInRange
 range-by-depth os us e (workRecord least most) = refl
 range-by-depth os us e (loopRecord l) =
     λ i. leb (l .start) costLimit && leb (l .step) costLimit && leb 1 (l .stride) && leb (l .stride) strideLimit
-    && formInRange (e i) (l .lower) && formInRange (e i) (l .upper)
+    && formInRange (e i) (l .lower) && formInRange (e i) (l .upper) && leb (skipCycles l) costLimit
 range-by-depth os us e endRecord = refl
 range-by-depth os us e choiceRecord = refl
 range-by-depth os us e nextArmRecord = refl
@@ -157,7 +157,7 @@ module _ (sheet : List ℕ) (at : ℕ) (os : List Open) where
   whole = readRecord at os (getD sheet at 0) (drop (at + 1) sheet)
 
   pub read-refused : at < length sheet → {number place : ℕ} → headAt sheet at ≡ refused number place → refused number place ≡ acceptedOf whole
-  unfolding headOf readRecord acceptedOf
+  unfolding headOf readRecordOf acceptedOf
   read-refused inside {number} {place} e =
       let bytes : List ℕ = drop (at + 1) sheet in
       sym (ap acceptedOf (refused-alike (kindOf (getD sheet at 0)) (λ k. leb (bodyLength k) (length bytes)) _

@@ -12,10 +12,11 @@ use lib.ListN.{length}
 use lib.Dec.{leb, ltb, eqb}
 use Rattle.meaning.specs.Limits.{depthLimit, openLimit}
 use Rattle.meaning.specs.Record.{Kind, kindOf, decodeRecord, Open, openLoop, openChoice, loopDepth, openAfter}
-use Rattle.meaning.proofs.Logic.{T-and, T→true, none-is-not-some, test-passed}
+use Rattle.meaning.proofs.Logic.{T-and, T→true, none-is-not-some, test-passed, true-is-not-false}
 use Rattle.sheet.specs.declared.nesting.Nesting.{Nesting}
 use Rattle.sheet.specs.Nestings.{loopDigit, loopBits, nestingOf, openAfterAs, openAfterKind, isThere, mayStand}
 use Rattle.sheet.specs.Nestings.{extendedNesting, closedNesting, nestingAfterAs, nestingAfter, mayStandInAs, mayStandIn}
+use Rattle.records.specs.View.{isLoopKind, isLoop}
 use Rattle.records.proofs.ByKind.{by-kind}
 
 -- ---- the numbers of what is open
@@ -167,14 +168,16 @@ after-is {n} os {us} e =
     (λ a. let h = after-end os us a in closed-is us (h .0) (e ∙ ap nestingOf (h .1)))
     (λ a. let h = after-choice os us a in extended-is os openChoice e digit-choice (h .0) ∙ ap nestingOf (h .1))
     (λ a. e ∙ ap nestingOf (after-arm os us a))
+    (λ a. let h = after-loop os us a in extended-is os openLoop e digit-loop (h .0) ∙ ap nestingOf (h .1))
     (λ m _ a. e ∙ ap nestingOf (some-injective a))
 
 -- the numbers after a record that opens and closes nothing
-pub after-other : (n : Nesting) {kind : ℕ} → (kind ≡ 2 → ⊥) → (kind ≡ 4 → ⊥) → (kind ≡ 3 → ⊥) → n ≡ nestingAfter n kind
-unfolding nestingAfter nestingAfterAs
+pub after-other : (n : Nesting) {kind : ℕ} → isLoop kind ≡ false → (kind ≡ 4 → ⊥) → (kind ≡ 3 → ⊥) → n ≡ nestingAfter n kind
+unfolding nestingAfter nestingAfterAs isLoopKind
 after-other n {kind} =
-    by-kind (λ (m : ℕ) (k : Option Kind). (m ≡ 2 → ⊥) → (m ≡ 4 → ⊥) → (m ≡ 3 → ⊥) → n ≡ nestingAfterAs n k)
-    (λ _ _ _. refl) (λ h _ _. absurd (h refl)) (λ _ _ h. absurd (h refl)) (λ _ h _. absurd (h refl)) (λ _ _ _. refl) (λ m _ _ _ _. refl) kind
+    by-kind (λ (m : ℕ) (k : Option Kind). isLoopKind k ≡ false → (m ≡ 4 → ⊥) → (m ≡ 3 → ⊥) → n ≡ nestingAfterAs n k)
+    (λ _ _ _. refl) (λ h _ _. true-is-not-false h) (λ _ _ h. absurd (h refl)) (λ _ h _. absurd (h refl)) (λ _ _ _. refl) (λ h _ _. true-is-not-false h)
+    (λ m _ _ _ _. refl) kind
 
 -- ---- whether a record may stand
 
@@ -204,17 +207,23 @@ unfolding mayStandIn mayStandInAs mayStand isThere openAfterKind openAfterAs kin
 may-stand-is {n} os e =
     by-kind (λ (m : ℕ) (k : Option Kind). mayStandInAs n k ≡ isThere (openAfterAs os k))
     refl
-    ((λ i. ltb (depth-is os e i) depthLimit && ltb (size-is os e i) openLimit)
-    ∙ sym (there-if (ltb (loopDepth os) depthLimit && ltb (length os) openLimit) (openLoop ∷ os)))
+    may-loop
     (ap (λ (x : ℕ). not (eqb x 0)) (size-is os e) ∙ may-end os)
     (ap (λ (x : ℕ). ltb x openLimit) (size-is os e) ∙ sym (there-if (ltb (length os) openLimit) (openChoice ∷ os)))
     ((λ i. not (eqb (size-is os e i) 0) && eqb (loops-is os e i % 2) 0) ∙ may-arm os)
+    may-loop
     (λ m _. refl)
+  where
+    may-loop : ltb (n .depth) depthLimit && ltb (n .size) openLimit ≡ isThere (cond (ltb (loopDepth os) depthLimit && ltb (length os) openLimit) (some (openLoop ∷ os)) none)
+    may-loop =
+        (λ i. ltb (depth-is os e i) depthLimit && ltb (size-is os e i) openLimit)
+        ∙ sym (there-if (ltb (loopDepth os) depthLimit && ltb (length os) openLimit) (openLoop ∷ os))
 
 -- a work may stand anywhere
-pub allows-other : (n : Nesting) {kind : ℕ} → (kind ≡ 2 → ⊥) → (kind ≡ 4 → ⊥) → (kind ≡ 3 → ⊥) → (kind ≡ 5 → ⊥) → true ≡ mayStandIn n kind
-unfolding mayStandIn mayStandInAs
+pub allows-other : (n : Nesting) {kind : ℕ} → isLoop kind ≡ false → (kind ≡ 4 → ⊥) → (kind ≡ 3 → ⊥) → (kind ≡ 5 → ⊥) → true ≡ mayStandIn n kind
+unfolding mayStandIn mayStandInAs isLoopKind
 allows-other n {kind} =
-    by-kind (λ (m : ℕ) (k : Option Kind). (m ≡ 2 → ⊥) → (m ≡ 4 → ⊥) → (m ≡ 3 → ⊥) → (m ≡ 5 → ⊥) → true ≡ mayStandInAs n k)
-    (λ _ _ _ _. refl) (λ h _ _ _. absurd (h refl)) (λ _ _ h _. absurd (h refl)) (λ _ h _ _. absurd (h refl)) (λ _ _ _ h. absurd (h refl)) (λ m _ _ _ _ _. refl)
+    by-kind (λ (m : ℕ) (k : Option Kind). isLoopKind k ≡ false → (m ≡ 4 → ⊥) → (m ≡ 3 → ⊥) → (m ≡ 5 → ⊥) → true ≡ mayStandInAs n k)
+    (λ _ _ _ _. refl) (λ h _ _ _. true-is-not-false h) (λ _ _ h _. absurd (h refl)) (λ _ h _ _. absurd (h refl)) (λ _ _ _ h. absurd (h refl))
+    (λ h _ _ _. true-is-not-false h) (λ m _ _ _ _ _. refl)
     kind

@@ -8,7 +8,7 @@ use lib.ListN.{length, getD, drop, length-append, length-drop, drop-of-length-le
 use lib.Seq.{drop-cons, drop-drop}
 use Rattle.meaning.specs.Limits.{recordLimit}
 use Rattle.meaning.specs.Record.{bodyLength, Record, kind, recordLength, Open}
-use Rattle.meaning.specs.Reader.{Result, ok, refused, andThen, Accepted, readRecord, endOfSheet, readFrom, read}
+use Rattle.meaning.specs.Reader.{readFromOf, Result, ok, refused, andThen, Accepted, readRecord, endOfSheet, readFrom, read}
 use Rattle.meaning.proofs.Logic.{refused-is-not-ok, ok-injective}
 use Rattle.meaning.proofs.Accepted.{readRecord-ok}
 use Rattle.sheet.specs.declared.nesting.Nesting.{Nesting}
@@ -84,7 +84,7 @@ module _ {sheet : List ℕ} {at count : ℕ} {here : Nesting} (g : Reading sheet
 
     -- one record too many
     pub reading-full : recordLimit ≤ count → refused 4 at ≡ counted (read sheet)
-    unfolding readFrom prepend counted
+    unfolding readFromOf prepend counted
     reading-full h =
         let none-left : recordLimit - count ≡ zero = omega (arith, g .few) in
         sym (ap counted (g .leaves ∙ (λ i. prepend (g .done) (readFrom (none-left i) at (g .os) (split i)))))
@@ -97,7 +97,7 @@ module _ {sheet : List ℕ} {at count : ℕ} {here : Nesting} (g : Reading sheet
       others a = readFrom left (at + recordLength (a .accepted)) (a .after) (drop (bodyLength (kind (a .accepted))) rest)
 
       one-read : read sheet ≡ prepend (g .done) (andThen (readRecord at (g .os) kindByte rest) λ a. andThen (others a) λ rs. ok (a .accepted ∷ rs))
-      unfolding readFrom
+      unfolding readFromOf
       one-read =
           let one-less : recordLimit - count ≡ suc left = omega arith in
           g .leaves ∙ (λ i. prepend (g .done) (readFrom (one-less i) at (g .os) (split i)))
@@ -147,7 +147,7 @@ module _ {sheet : List ℕ} {at count : ℕ} {here : Nesting} (g : Reading sheet
 
   module _ (end : length sheet ≤ at) where
     at-end : (os : List Open) (left : ℕ) → readFrom left at os [] ≡ endOfSheet at os []
-    unfolding readFrom
+    unfolding readFromOf
     at-end os zero = refl
     at-end os (suc left) = refl
 

@@ -9,11 +9,13 @@ use lib.Seq.{split-at, take-suc}
 use Rattle.meaning.specs.Record.{Record, endRecord, kind, kindNumber, recordLength, sheetLength}
 use Rattle.meaning.specs.Reader.{Result, ok, read, refused}
 use Rattle.meaning.specs.Limits.{recordLimit}
+use Rattle.meaning.proofs.Logic.{refused-is-not-ok, refused-number, refused-place}
 use Rattle.meaning.proofs.Accepted.{InPlace, read-in-place, read-short}
 use Rattle.meaning.proofs.RecordReader.{StandsAt, read-stands, recordHead}
 use Rattle.meaning.proofs.RecordBytes.{kindOf-kindNumber}
 pub use Rattle.meaning.proofs.RecordBytes.{sheetLength-append}
 use Rattle.records.specs.View.{lengthOf, lengthOfKind}
+use Rattle.sheet.specs.Answers.{counted}
 use Rattle.sheet.specs.Sheets.{recordsIn, recordsOf}
 use Rattle.sheet.proofs.Heads.{head-stands}
 
@@ -22,6 +24,18 @@ use Rattle.sheet.proofs.Heads.{head-stands}
 pub length-one-more : (rs : List Record) (r : Record) → sheetLength (rs ++ (r ∷ [])) ≡ sheetLength rs + recordLength r
 unfolding sheetLength
 length-one-more rs r = sheetLength-append rs (r ∷ []) ∙ (let e : sheetLength rs + (recordLength r + 0) ≡ sheetLength rs + recordLength r = omega arith in e)
+
+-- ---- a count, or a refusal
+
+pub counted-ok : (x : Result (List Record)) (n : ℕ) → counted x ≡ ok n → (rs : List Record) × (x ≡ ok rs) × (n ≡ length rs)
+unfolding counted
+counted-ok (ok rs) n e = (rs, refl, (let z : n ≡ length rs = cc in z))
+counted-ok (refused m p) n e = refused-is-not-ok e
+
+pub counted-refused : (x : Result (List Record)) (number place : ℕ) → counted x ≡ refused number place → x ≡ refused number place
+unfolding counted
+counted-refused (ok rs) number place e = refused-is-not-ok (sym e)
+counted-refused (refused m p) number place e = λ i. refused (refused-number e i) (refused-place e i)
 
 -- ---- the records of a sheet
 

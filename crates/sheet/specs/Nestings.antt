@@ -68,7 +68,7 @@ closedNesting here =
 -- what is open after a record by its kind; a work, a next arm and what has no kind change nothing
 unfoldable pub nestingAfterAs : Nesting → Option Kind → Nesting
 nestingAfterAs here (some workKind) = here
-nestingAfterAs here (some loopKind) = extendedNesting here 1
+nestingAfterAs here (some (loopKind hasSkip)) = extendedNesting here 1
 nestingAfterAs here (some endKind) = closedNesting here
 nestingAfterAs here (some choiceKind) = extendedNesting here 0
 nestingAfterAs here (some nextArmKind) = here
@@ -81,7 +81,7 @@ nestingAfter here kind = nestingAfterAs here (kindOf kind)
 -- whether a record may stand by its kind: a loop needs room in both limits, a choice in one, an end something open, a next arm a choice
 unfoldable pub mayStandInAs : Nesting → Option Kind → Bool
 mayStandInAs here (some workKind) = true
-mayStandInAs here (some loopKind) = ltb (here .depth) depthLimit && ltb (here .size) openLimit
+mayStandInAs here (some (loopKind hasSkip)) = ltb (here .depth) depthLimit && ltb (here .size) openLimit
 mayStandInAs here (some endKind) = not (eqb (here .size) 0)
 mayStandInAs here (some choiceKind) = ltb (here .size) openLimit
 mayStandInAs here (some nextArmKind) = not (eqb (here .size) 0) && eqb (here .loops % 2) 0

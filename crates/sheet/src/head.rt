@@ -3,9 +3,8 @@ ghost use mathlib.Core.Path.{_≡_};
 ghost use Rattle.meaning.specs.Reader.{headAt, bodyAt};
 ghost use Rattle.sheet.specs.Answers.{headResult};
 use crate::refusal::Refusal;
-use records::NEXT_ARM;
-use records::WORK;
 use records::body_length;
+use records::is_kind;
 
 // A record's kind, and where its body begins and how long it is.
 pub struct Head {
@@ -27,7 +26,7 @@ pub fn head_at(sheet: &[u8], at: usize) -> HeadAnswer
         return HeadAnswer::End;
     }
     let kind = sheet[at];
-    if kind < WORK || NEXT_ARM < kind {
+    if !is_kind(kind) {
         return HeadAnswer::Refused(Refusal {
             number: 2,
             offset: at,

@@ -12,10 +12,11 @@ use crate::refusal::Refusal;
 use form::MAX_DEPTH;
 use records::CHOICE;
 use records::END;
-use records::LOOP;
 use records::MAX_OPEN;
 use records::NEXT_ARM;
+use records::SKIP_LOOP;
 use records::WORK;
+use records::is_loop;
 use records::loops::Loop;
 use records::work::Work;
 
@@ -47,8 +48,8 @@ fn fields_in_range(kind: u8, body: &[u8], depth: usize) -> bool
     if kind == WORK {
         return Work::in_range(body);
     }
-    if kind == LOOP {
-        return Loop::in_range(body, depth);
+    if is_loop(kind) {
+        return Loop::in_range(body, kind == SKIP_LOOP, depth);
     }
     true
 }
@@ -68,7 +69,7 @@ impl Nesting {
     fn allows(self, kind: u8) -> bool
         ensures { λ r. ⌜ r ≡ mayStandIn self kind ⌝ }
     {
-        if kind == LOOP {
+        if is_loop(kind) {
             return self.depth < MAX_DEPTH && self.size < MAX_OPEN;
         }
         if kind == CHOICE {
@@ -88,7 +89,7 @@ impl Nesting {
         ensures numbers { λ r. ⌜ r ≡ nestingAfter self kind ⌝ }
         ensures open { λ r. ⌜ ((os us : List Open) → self ≡ nestingOf os → openAfterKind os kind ≡ some us → r ≡ nestingOf us) ⌝ }
     {
-        if kind == LOOP {
+        if is_loop(kind) {
             return self.extended(1);
         }
         if kind == CHOICE {

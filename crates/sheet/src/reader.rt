@@ -5,6 +5,7 @@ ghost use Prim.Native.Nat.{ℕ, _+_, _≤_, _<_};
 ghost use lib.ListN.{length, getD, drop};
 ghost use Rattle.meaning.specs.Record.{Open};
 ghost use Rattle.meaning.specs.Reader.{ok, readRecord, read};
+ghost use Rattle.meaning.specs.FirstReader.{ReadAsBefore};
 ghost use Rattle.meaning.specs.Writer.{store, write};
 ghost use Rattle.records.specs.View.{rawRecordOf};
 ghost use Rattle.sheet.specs.Nestings.{nestingOf};
@@ -121,12 +122,13 @@ fn decode_all(sheet: &[u8], count: usize) -> Records
     records
 }
 
-// Reads a sheet's records. Writing them again gives back the sheet.
+// Reads a sheet's records. Writing them again gives back the sheet, and a sheet without kind 6 is read as it was before there was one.
 pub fn read_sheet(sheet: &[u8]) -> RecordsRead
     ensures answer { λ r. ⌜ countResult (r .answer) ≡ counted (read (now (sheet .entry))) ⌝ }
     ensures records { λ r. ⌜ r .records ≡ withBlanks (read (now (sheet .entry))) ⌝ }
     ensures undone { λ r. ⌜ ((n : ℕ) (buffer : List ℕ) → countResult (r .answer) ≡ ok n → length (now (sheet .entry)) ≤ length buffer →
         write (map rawRecordOf (r .records)) n buffer ≡ store buffer (ok (now (sheet .entry)))) ⌝ }
+    ensures before { λ _. ⌜ ReadAsBefore (now (sheet .entry)) ⌝ }
 {
     let answer = check_sheet(sheet);
     let count = count_in(answer);

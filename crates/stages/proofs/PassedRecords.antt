@@ -25,7 +25,7 @@ use Rattle.meaning.proofs.Trips.{Inside, firstSums, tripTime, tripVisits}
 use Rattle.meaning.proofs.Sound.{Sound}
 use Rattle.meaning.proofs.Closable.{class-closed}
 use Rattle.meaning.proofs.Trees.{tree-before-end}
-use Rattle.layout.specs.Rows.{afterEndAt, endRole, entryCostAt, firstCost, frameAt, loopAt, loopRole, roleAt, roleNumber, roleOf, roleOfKind, secondAt, secondCost}
+use Rattle.layout.specs.Rows.{afterEndAt, endRole, entryCostAt, firstCost, frameAt, loopAt, loopRole, roleAt, roleNumber, roleOf, roleOfKind, secondAt, secondCost, skipCost}
 use Rattle.planner.specs.Closing.{limitOf}
 use Rattle.state.specs.States.{StateParts}
 use Rattle.state.specs.Open.{counterPart, filled, keptPart, partLength}
@@ -161,9 +161,13 @@ module _ {ps : List ℤ} {rs : List Record} {rows differences limits : List ℕ}
         ap (λ (ns : List ℕ). tripsAt differences (filled (partLength counterPart) ns) (loopAt rows at)) (sym (append-nil (counterNumbers fs)))
         ∙ trips-are known fs (stands-here known fs h) inside [] (loop-moves known fs h)
 
+    cost-of : (n : ℕ) → entryCostAt rows at n ≡ entryCost l n
+    unfolding entryCostAt entryCost firstCost skipCost
+    cost-of zero = row-here known fs (g .place) .skipIs
+    cost-of (suc n) = row-here known fs (g .place) .firstIs
+
     cost-is : entryCostAt rows at made ≡ entryCost l made
-    unfolding entryCostAt entryCost firstCost
-    cost-is = row-here known fs (g .place) .firstIs
+    cost-is = cost-of made
 
     loop-role : roleAt rows at ≡ roleNumber loopRole
     unfolding roleOf roleOfKind kind

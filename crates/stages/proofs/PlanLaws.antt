@@ -26,11 +26,11 @@ use Rattle.meaning.proofs.Accepted.{InPlace}
 use Rattle.meaning.proofs.Trips.{Inside}
 use Rattle.meaning.proofs.Reports.{WithinCeiling, first-over-none}
 use Rattle.meaning.proofs.Ranges.{trips-ceiling}
-use Rattle.layout.specs.Rows.{afterEndAt, endAt, firstAt, firstCost, frameAt, loopAt, depthAt, openerAt, roleAt, roleNumber, roleOf, secondAt, secondCost}
+use Rattle.layout.specs.Rows.{afterEndAt, endAt, firstAt, firstCost, frameAt, loopAt, depthAt, openerAt, roleAt, roleNumber, roleOf, secondAt, secondCost, skipAt, skipCost}
 use Rattle.layout.specs.Loops.{baseAt, limitAt, pushWordAt, strideAt, wordOf}
 use Rattle.nest.specs.Known.{RowsHeld}
 use Rattle.nest.specs.Rows.{endNumber, innermost}
-use Rattle.nest.proofs.RowsRead.{enclosing-reads, end-reads, first-reads, frame-reads, depth-reads, role-reads, second-reads}
+use Rattle.nest.proofs.RowsRead.{enclosing-reads, end-reads, first-reads, frame-reads, depth-reads, role-reads, second-reads, skip-reads}
 use Rattle.nest.proofs.Places.{in-place-through, loop-in-place}
 use Rattle.nest.proofs.Walks.{opensThrough}
 use Rattle.loops.specs.Enclosing.{Enclosing, enter, loopsAround, nothingOpen}
@@ -80,6 +80,7 @@ module _ {ps : List ℤ} {rs : List Record} {rows differences limits : List ℕ}
     pub roleIs : roleAt rows n ≡ roleNumber (roleOf r)
     pub firstIs : firstAt rows n ≡ firstCost r
     pub secondIs : secondAt rows n ≡ secondCost r
+    pub skipIs : skipAt rows n ≡ skipCost r
     pub afterEndIs : afterEndAt rows n ≡ endNumber n r ys % recordLimit + 1
     pub openerIs : openerAt rows n ≡ (innermost ns - 1) % recordLimit
     pub frameIs : frameAt rows n ≡ length os % openLimit
@@ -103,6 +104,7 @@ module _ {ps : List ℤ} {rs : List Record} {rows differences limits : List ℕ}
           roleIs = ap (roleAt rows) at ∙ role-reads (h .outer) r ys rows-here few-here;
           firstIs = ap (firstAt rows) at ∙ first-reads (h .outer) r ys rows-here few-here;
           secondIs = ap (secondAt rows) at ∙ second-reads (h .outer) r ys rows-here few-here;
+          skipIs = ap (skipAt rows) at ∙ skip-reads (h .outer) r ys rows-here few-here;
           afterEndIs =
               ap (λ (m : ℕ). endAt rows m + 1) at ∙ ap (λ (m : ℕ). m + 1) (end-reads (h .outer) r ys rows-here few-here)
               ∙ ap (λ (m : ℕ). endNumber m r ys % recordLimit + 1) (h .number);

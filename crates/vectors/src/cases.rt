@@ -27,8 +27,12 @@ pub(crate) const TEXTS: u8 = 6;
 
 pub(crate) const LINES: u8 = 7;
 
+pub(crate) const WITH_SKIPS: u8 = 8;
+
+pub(crate) const WITHOUT_SKIPS: u8 = 9;
+
 // How many bytes an entry takes that has the fields of a record.
-pub(crate) const ENTRY: usize = 29;
+pub(crate) const ENTRY: usize = 31;
 
 // What is called, the refusal's number, lengths, and the place, count or length that is expected.
 pub(crate) struct Case {
@@ -53,10 +57,11 @@ pub(crate) fn case_of(header: &[u8]) -> Case {
     }
 }
 
-// How many bytes follow the sheet: a text, records, parameters and the lines of loops, a call, or parameters and states.
+// How many bytes follow the sheet: a text, a number and a new sheet, records, parameters and the lines of loops, a call, or
+// parameters and states.
 pub(crate) fn entries_length(case: Case) -> usize {
     let entries = case.entries;
-    if case.which == TEXTS {
+    if case.which == TEXTS || case.which == WITH_SKIPS || case.which == WITHOUT_SKIPS {
         return entries;
     }
     if MOST_STAGES < entries {
@@ -108,6 +113,7 @@ pub(crate) fn record_in(entry: &[u8]) -> Record {
             stride: unsigned16_at(entry, 9),
             lower: lower,
             upper: upper,
+            skip: unsigned16_at(entry, 29),
         },
     }
 }

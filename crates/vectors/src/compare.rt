@@ -8,9 +8,12 @@ use crate::cases::PLAN;
 use crate::cases::READER;
 use crate::cases::STAGES;
 use crate::cases::TEXTS;
+use crate::cases::WITH_SKIPS;
+use crate::cases::WITHOUT_SKIPS;
 use crate::cases::WRITER;
 use crate::cases::entries_length;
 use crate::cases::record_in;
+use crate::conversions::conversion_agrees;
 use crate::lines::line_agrees;
 use crate::plans::plan_agrees;
 use crate::states::stages_agree;
@@ -48,7 +51,7 @@ fn same_work(a: Work, b: Work) -> bool {
 }
 
 fn same_loop(a: Loop, b: Loop) -> bool {
-    let costs = a.start == b.start && a.step == b.step && a.stride == b.stride;
+    let costs = a.start == b.start && a.step == b.step && a.stride == b.stride && a.skip == b.skip;
     let lower = a.lower;
     let upper = a.upper;
     let other_lower = b.lower;
@@ -142,20 +145,26 @@ fn write_into(records: Records, count: usize, space: &mut [u8], length: usize) -
     write_sheet(records, count, &mut space[..length])
 }
 
+// What the writer or a converter answered and left: the sheet at the start of the space and every other byte as it was; a refusal
+// leaves all of them.
+pub(crate) fn written_agrees(case: Case, answer: WriteAnswer, space: &[u8], sheet: &[u8]) -> bool {
+    match answer {
+        WriteAnswer::Length(n) => {
+            let answered = case.number == 0 && n == case.value;
+            answered && same_bytes(space, sheet, n) && still_filled(space, n)
+        }
+        WriteAnswer::Refused(r) => {
+            let answered = r.number == (case.number as u32) && r.offset == case.value;
+            answered && still_filled(space, 0)
+        }
+    }
+}
+
 fn writer_agrees(case: Case, sheet: &[u8], entries: &[u8]) -> bool {
     let mut space: [u8; 2048] = [167; 2048];
     let length = case.buffer;
     let answer = write_into(records_in(entries), case.count, &mut space, length);
-    match answer {
-        WriteAnswer::Length(n) => {
-            let answered = case.number == 0 && n == case.value;
-            answered && same_bytes(&space, sheet, n) && still_filled(&space, n)
-        }
-        WriteAnswer::Refused(r) => {
-            let answered = r.number == (case.number as u32) && r.offset == case.value;
-            answered && still_filled(&space, 0)
-        }
-    }
+    written_agrees(case, answer, &space, sheet)
 }
 
 // The first bytes of a space.
@@ -179,6 +188,8 @@ pub(crate) fn agrees(case: Case, sheets: &[u8], entries: &[u8]) -> bool {
         STAGES => stages_agree(case, sheet, own),
         TEXTS => text_agrees(case, sheet, own),
         LINES => line_agrees(case, sheet),
+        WITH_SKIPS => conversion_agrees(case, sheet, own),
+        WITHOUT_SKIPS => conversion_agrees(case, sheet, own),
         _ => false,
     }
 }

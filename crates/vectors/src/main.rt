@@ -1,8 +1,9 @@
-// Runs the stored cases of the reader, the writer, the plan, the calls, the stage, the texts and the reasons' lines, and says how
-// many there are and how many differ.
+// Runs the stored cases of the reader, the writer, the plan, the calls, the stage, the texts, the reasons' lines and the converters,
+// and says how many there are and how many differ.
 mod calls;
 mod cases;
 mod compare;
+mod conversions;
 mod lines;
 mod numbers;
 mod plans;
@@ -14,6 +15,8 @@ use crate::cases::PLAN;
 use crate::cases::READER;
 use crate::cases::STAGES;
 use crate::cases::TEXTS;
+use crate::cases::WITH_SKIPS;
+use crate::cases::WITHOUT_SKIPS;
 use crate::cases::WRITER;
 use crate::cases::case_of;
 use crate::cases::entries_length;
@@ -30,6 +33,7 @@ struct Tally {
     stagings: u64,
     texts: u64,
     lines: u64,
+    conversions: u64,
     differing: u64,
     more: bool,
 }
@@ -55,6 +59,12 @@ fn counted(tally: Tally, which: u8, agrees: bool) -> Tally {
         }
         LINES => {
             next.lines = std::num::wrapping_add_u64(next.lines, 1);
+        }
+        WITH_SKIPS => {
+            next.conversions = std::num::wrapping_add_u64(next.conversions, 1);
+        }
+        WITHOUT_SKIPS => {
+            next.conversions = std::num::wrapping_add_u64(next.conversions, 1);
         }
         _ => {
             next.calls = std::num::wrapping_add_u64(next.calls, 1);
@@ -137,6 +147,7 @@ fn main() {
         stagings: 0,
         texts: 0,
         lines: 0,
+        conversions: 0,
         differing: 0,
         more: true,
     };
@@ -145,7 +156,8 @@ fn main() {
     let figures = run_file(b"figures", loops);
     let stages = run_file(b"stages", figures);
     let texts = run_file(b"texts", stages);
-    let tally = run_file(b"reasons", texts);
+    let lines = run_file(b"reasons", texts);
+    let tally = run_file(b"converters", lines);
     print_line(b"sheets read: ", tally.readings);
     print_line(b"sheets written: ", tally.writings);
     print_line(b"plans made: ", tally.plans);
@@ -153,5 +165,6 @@ fn main() {
     print_line(b"sheets gone through stage by stage: ", tally.stagings);
     print_line(b"texts stored: ", tally.texts);
     print_line(b"lines read back: ", tally.lines);
+    print_line(b"sheets converted: ", tally.conversions);
     print_line(b"otherwise than reckoned: ", tally.differing);
 }

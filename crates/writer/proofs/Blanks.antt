@@ -13,13 +13,13 @@ use lib.Seq.{drop-cons}
 use Rattle.meaning.specs.Limits.{constantHalf, factorHalf, indexFactors}
 use Rattle.meaning.specs.Number.{littleEndian, encodeSigned, hasPattern}
 use Rattle.meaning.specs.Form.{Form, formBytes, isZero, allZero, factorsFit}
-use Rattle.meaning.specs.Record.{loopRecord, bodyBytes}
-use Rattle.meaning.specs.Writer.{formZero, loopFieldsZero}
+use Rattle.meaning.specs.Record.{skipWhere, loopRecord, skipBytes, bodyBytes}
+use Rattle.meaning.specs.Writer.{formZero, skipZero, loopFieldsZero}
 use Rattle.meaning.proofs.Logic.{T-and, and-T, same-truth}
 use Rattle.meaning.proofs.Number.{encode-bound}
 use Rattle.meaning.proofs.Accepted.{FormInRange}
-use Rattle.records.specs.declared.loops.Loop.{Loop}
-use Rattle.records.specs.View.{loopOf}
+use Rattle.records.specs.declared.Record.{Record}
+use Rattle.records.specs.View.{loopOf, rawRecordOf}
 use Rattle.writer.specs.Writing.{allBlank}
 use Rattle.writer.proofs.Fits.{LoopFits}
 
@@ -85,9 +85,10 @@ form-blank {f} h =
     ∙ pattern-blank constantHalf (f .constant) (h .constantFits)) t
     && factors-blank (f .index) (h .indexFit) t && factors-blank (f .parameter) (h .parameterFit) t)
 
-pub loop-blank : {l : Loop} → LoopFits l → allBlank (bodyBytes (loopRecord (loopOf l))) ≡ loopFieldsZero (loopOf l)
-unfolding bodyBytes loopFieldsZero
-loop-blank {l} h =
+pub loop-blank : (item : Record) → LoopFits (item .looping) → allBlank (bodyBytes (loopRecord (loopOf true (item .looping)))) ≡ loopFieldsZero (rawRecordOf item)
+unfolding bodyBytes skipBytes skipWhere loopFieldsZero skipZero
+loop-blank item h =
+    let l = item .looping in
     simp append-blank
     (λ t. number-blank (l .start) (h .startFits) t && number-blank (l .step) (h .stepFits) t && number-blank (l .stride) (h .strideFits) t
-    && form-blank (h .lowerFits) t && form-blank (h .upperFits) t)
+    && form-blank (h .lowerFits) t && form-blank (h .upperFits) t && number-blank (l .skip) (h .skipFits) t)

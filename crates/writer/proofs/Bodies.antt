@@ -1,23 +1,25 @@
--- Bodies in bytes: what the code makes of a form, and how long a form and a body are.
+-- Bodies in bytes: what the code makes of a form, and of a skip.
 use mathlib.Core.Path.{_≡_, ap, _∙_}
-use mathlib.Core.List.{List, [], _∷_, _++_, map}
+use mathlib.Core.List.{List, [], _∷_, _++_, map, append-nil}
+use mathlib.Core.Bool.{true, false}
 use Prim.Native.Nat.{ℕ}
 use native.Mathlib.Omega.{arith}
 use lib.IntN.{ℤ}
 use lib.Signed.{mag}
 use lib.Dec.{T, ltb→lt}
-use lib.ListN.{length, getD, length-append}
+use lib.ListN.{getD}
 use mir.Syntax.{Width, w8, w16}
 use mir.Val.{toZ, ofZ}
-use Rattle.meaning.specs.Limits.{constantHalf, factorHalf, indexFactors, bodyLimit}
+use Rattle.meaning.specs.Limits.{constantHalf, factorHalf, indexFactors}
 use Rattle.meaning.specs.Number.{littleEndian, encodeSigned, hasPattern}
 use Rattle.meaning.specs.Form.{Form, formBytes}
-use Rattle.meaning.specs.Record.{Loop, loopRecord, bodyBytes}
-use Rattle.meaning.proofs.Number.{length-littleEndian}
+use Rattle.meaning.specs.Record.{skipWhere, loopRecord, skipBytes, bodyBytes}
 use Rattle.meaning.proofs.Accepted.{FormInRange}
-use Rattle.meaning.proofs.RecordBytes.{length-formBytes, factor-fits}
+use Rattle.meaning.proofs.RecordBytes.{factor-fits}
 use Rattle.encoding.proofs.Patterns.{Widths, bits8, bits16, handed}
 use Rattle.form.proofs.FormLists.{at, indexes-are, four-are}
+use Rattle.records.specs.declared.loops.Loop.{Loop}
+use Rattle.records.specs.View.{loopOf}
 
 -- the pattern of a number that has one, as the code is told of it
 exact : {half : ℕ} {w v : Width} → Widths half w v → (z : ℤ) → T (hasPattern half z)
@@ -50,6 +52,7 @@ module _ {f : Form} (h : FormInRange indexFactors f) where
       ++ map (encodeSigned factorHalf) (indexes-are (f .index) (h .indexCount) t)
       ++ map (encodeSigned factorHalf) (four-are (f .parameter) (h .parameterCount) t))
 
-pub loop-long : (l : Loop) → FormInRange indexFactors (l .lower) → FormInRange indexFactors (l .upper) → length (bodyBytes (loopRecord l)) ≡ bodyLimit
-unfolding bodyBytes
-loop-long l lower upper = simp (length-append, length-littleEndian, length-formBytes indexFactors (l .lower) lower, length-formBytes indexFactors (l .upper) upper)
+-- a skip stands after what a loop without one has
+pub skip-after : (l : Loop) → bodyBytes (loopRecord (loopOf false l)) ++ littleEndian 2 (l .skip) ≡ bodyBytes (loopRecord (loopOf true l))
+unfolding bodyBytes skipBytes skipWhere
+skip-after l = simp append-nil

@@ -33,6 +33,7 @@ pub record LoopFits (l : Loop) : Type 0 where
   pub strideFits : l .stride < 2 ^ 16
   pub lowerFits : FormInRange indexFactors (formOf (l .lower))
   pub upperFits : FormInRange indexFactors (formOf (l .upper))
+  pub skipFits : l .skip < 2 ^ 16
 
 pub record RecordFits (r : Record) : Type 0 where
   pub leastFits : r .work .least < 2 ^ 16
@@ -71,6 +72,7 @@ loop-fits l vs h =
       strideFits = fields .1 .1 .0 .1;
       lowerFits = form-fits (l .lower) _ (fields .1 .1 .1 .0);
       upperFits = form-fits (l .upper) _ (fields .1 .1 .1 .1 .0);
+      skipFits = fields .1 .1 .1 .1 .1 .0 .1;
     }
 
 pub record-fits : (r : Record) (vs : List Val) → Is record-row.the-row r vs → RecordFits r

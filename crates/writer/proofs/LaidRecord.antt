@@ -3,7 +3,7 @@ use mathlib.Core.Path.{_≡_, sym, ap, subst, _∙_}
 use mathlib.Core.List.{List, [], _∷_, _++_}
 use mathlib.Core.Bool.{Bool, true, false}
 use mathlib.Core.Option.{Option, some}
-use Prim.Native.Nat.{ℕ, _+_, _<_}
+use Prim.Native.Nat.{ℕ, _+_}
 use native.Mathlib.Omega.{arith}
 use lib.ListN.{take}
 use Rattle.meaning.specs.Record as M
@@ -16,7 +16,7 @@ use Rattle.meaning.proofs.RecordBytes.{kindNumber-kindOf}
 use Rattle.encoding.specs.Append.{Appended}
 use Rattle.encoding.proofs.Appending as bytes
 use Rattle.records.specs.declared.Record.{Record}
-use Rattle.records.specs.View.{rawRecordOf}
+use Rattle.records.specs.View.{isKind, rawRecordOf}
 use Rattle.sheet.specs.Answers.{acceptedOf}
 use Rattle.sheet.proofs.Heads.{no-kind}
 use Rattle.writer.specs.Writing.{RecordLaid}
@@ -30,7 +30,7 @@ module _ (at : ℕ) (os : List Open) (item : Record) where
   abbrev with-kind : Option Kind → Result Accepted
   with-kind o = andThen (orRefuse o 2 at) λ k. require (foreignFieldsZero k (rawRecordOf item)) 3 at (accept at os (recordOf k (rawRecordOf item)))
 
-  pub check-no-kind : (0 < item .kind → item .kind < 6 → ⊥) → refused 2 at ≡ acceptedOf checked
+  pub check-no-kind : isKind (item .kind) ≡ false → refused 2 at ≡ acceptedOf checked
   unfolding checkRecord andThen orRefuse acceptedOf
   check-no-kind h = sym (ap (λ (o : Option Kind). acceptedOf (with-kind o)) (no-kind (item .kind) h))
 

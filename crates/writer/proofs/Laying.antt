@@ -24,7 +24,7 @@ use Rattle.sheet.proofs.Reading.{prepend, prepend-none, prepend-one, kept-refus
 use Rattle.sheet.proofs.SheetRecords.{length-one-more}
 use Rattle.writer.specs.Writing.{measured, RecordLaid, SheetLaid}
 
-bytes-one-more : (rs : List M.Record) (r : M.Record) → sheetBytes (rs ++ (r ∷ [])) ≡ sheetBytes rs ++ recordBytes r
+pub bytes-one-more : (rs : List M.Record) (r : M.Record) → sheetBytes (rs ++ (r ∷ [])) ≡ sheetBytes rs ++ recordBytes r
 unfolding sheetBytes
 bytes-one-more [] r = append-nil (recordBytes r)
 bytes-one-more (x ∷ rs) r =

@@ -11,7 +11,7 @@ use borrow.Author.Tests.{le-leb, lt-leb}
 use Rattle.meaning.specs.Limits.{recordLimit, sheetLengthLimit}
 use Rattle.meaning.specs.Record.{sheetLength, sheetBytes}
 use Rattle.meaning.specs.Reader.{Result, ok, refused, require, andThen, read}
-use Rattle.meaning.specs.Writer.{Written, checkFrom, check, store, write}
+use Rattle.meaning.specs.Writer.{Written, checkFrom, check, store, fitSheet, write}
 use Rattle.meaning.specs.Record as M
 use Rattle.meaning.proofs.Logic.{refused-is-not-ok, ok-injective, require-ok, require-yes}
 use Rattle.meaning.proofs.Written.{write-ok}
@@ -53,22 +53,19 @@ module _ (records : List Record) (count : ℕ) (buffer : List ℕ) where
   abbrev Promised : Result ℕ → List ℕ → Type 0
   Promised r left = (r ≡ outcome .result) × ((left ≡ outcome .buffer) × ((n : ℕ) → r ≡ ok n → Undone left n))
 
-  abbrev last : List M.Record → Result (List ℕ)
-  last rs = require (leb (length (sheetBytes rs)) (length buffer)) 9 0 (ok (sheetBytes rs))
-
   refusal : {number place : ℕ} → outcome ≡ store buffer (refused number place) → Promised (refused number place) buffer
   unfolding store
   refusal e = (sym (ap (λ (w : Written). w .result) e), (sym (ap (λ (w : Written). w .buffer) e), λ n q. refused-is-not-ok q))
 
   pub too-many : recordLimit < count → Promised (refused 4 0) buffer
   unfolding write check require andThen
-  too-many h = refusal (ap (λ (b : Bool). store buffer (andThen (require b 4 0 whole) last)) (lt-leb count recordLimit h))
+  too-many h = refusal (ap (λ (b : Bool). store buffer (andThen (require b 4 0 whole) (fitSheet buffer))) (lt-leb count recordLimit h))
 
   module _ (few : count ≤ recordLimit) where
-    with-check : {x : Result (List M.Record)} → whole ≡ x → outcome ≡ store buffer (andThen x last)
+    with-check : {x : Result (List M.Record)} → whole ≡ x → outcome ≡ store buffer (andThen x (fitSheet buffer))
     unfolding write check
     with-check e =
-        ap (λ (y : Result (List M.Record)). store buffer (andThen y last)) (require-yes (leb count recordLimit) 4 0 whole (le→leb count recordLimit few) ∙ e)
+        ap (λ (y : Result (List M.Record)). store buffer (andThen y (fitSheet buffer))) (require-yes (leb count recordLimit) 4 0 whole (le→leb count recordLimit few) ∙ e)
 
     pub not-laid-out : {number place : ℕ} → refused number place ≡ measured whole → Promised (refused number place) buffer
     unfolding andThen
@@ -97,7 +94,7 @@ module _ (records : List Record) (count : ℕ) (buffer : List ℕ) where
       size = sym part-long ∙ ap (λ (l : List ℕ). length l) part-is
 
       pub too-short : length buffer < n → Promised (refused 9 0) buffer
-      unfolding andThen require
+      unfolding andThen fitSheet require
       too-short h =
           let no : length buffer < length (sheetBytes rs) = omega (arith, size) in
           refusal (with-check (measured-ok whole e .1)
@@ -105,7 +102,7 @@ module _ (records : List Record) (count : ℕ) (buffer : List ℕ) where
 
       module _ (room : n ≤ length buffer) where
         stored : outcome ≡ store buffer (ok (sheetBytes rs))
-        unfolding andThen require
+        unfolding andThen fitSheet require
         stored =
             let yes : length (sheetBytes rs) ≤ length buffer = omega (arith, size) in
             with-check (measured-ok whole e .1)

@@ -1,5 +1,6 @@
 // A record's body, put at a position of a buffer; the answer is the position after it.
 ghost use mathlib.Core.Path.{_≡_};
+ghost use mathlib.Core.Bool.{false};
 ghost use mathlib.Core.Option.{some};
 ghost use Prim.Native.Nat.{_+_, _≤_};
 ghost use lib.ListN.{length};
@@ -16,9 +17,10 @@ use encoding::pattern::two_bytes;
 use encoding::put::put;
 use encoding::put::put_unsigned16;
 use form::packed::PackedForm;
-use records::LOOP;
 use records::Record;
+use records::SKIP_LOOP;
 use records::WORK;
+use records::is_loop;
 use records::loops::Loop;
 use records::work::Work;
 
@@ -49,9 +51,10 @@ fn put_work(buffer: &mut [u8], at: usize, fields: Work) -> usize
     put_unsigned16(buffer, at, fields.most)
 }
 
-pub(crate) fn put_loop(buffer: &mut [u8], at: usize, fields: Loop) -> usize
+// The body of a loop without a skip.
+fn put_plain_loop(buffer: &mut [u8], at: usize, fields: Loop) -> usize
     requires { ⌜ at + bodyLimit ≤ length (now buffer) ⌝ }
-    ensures { λ r. ⌜ Appended (now (buffer .entry)) at (bodyBytes (loopRecord (loopOf fields))) (now (buffer .exit)) r ⌝ }
+    ensures { λ r. ⌜ Appended (now (buffer .entry)) at (bodyBytes (loopRecord (loopOf false fields))) (now (buffer .exit)) r ⌝ }
 {
     let at = put_unsigned16(buffer, at, fields.start);
     let at = put_unsigned16(buffer, at, fields.step);
@@ -64,6 +67,18 @@ pub(crate) fn put_loop(buffer: &mut [u8], at: usize, fields: Loop) -> usize
     put(buffer, at, &second)
 }
 
+// A skip stands after what a loop without one has.
+pub(crate) fn put_loop(buffer: &mut [u8], at: usize, fields: Loop, skips: bool) -> usize
+    requires { ⌜ at + bodyLimit ≤ length (now buffer) ⌝ }
+    ensures { λ r. ⌜ Appended (now (buffer .entry)) at (bodyBytes (loopRecord (loopOf skips fields))) (now (buffer .exit)) r ⌝ }
+{
+    let at = put_plain_loop(buffer, at, fields);
+    if skips {
+        return put_unsigned16(buffer, at, fields.skip);
+    }
+    at
+}
+
 // The body that the fields of a record's kind make.
 pub(crate) fn put_body(buffer: &mut [u8], at: usize, item: Record) -> usize
     requires { ⌜ at + bodyLimit ≤ length (now buffer) ⌝ }
@@ -74,9 +89,9 @@ pub(crate) fn put_body(buffer: &mut [u8], at: usize, item: Record) -> usize
         let work = item.work;
         return put_work(buffer, at, work);
     }
-    if item.kind == LOOP {
+    if is_loop(item.kind) {
         let looping = item.looping;
-        return put_loop(buffer, at, looping);
+        return put_loop(buffer, at, looping, item.kind == SKIP_LOOP);
     }
     at
 }

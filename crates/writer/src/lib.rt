@@ -13,7 +13,7 @@ ghost use Rattle.meaning.specs.Record as M;
 ghost use Rattle.meaning.specs.Record.{Kind, kindOf, Open};
 ghost use Rattle.meaning.specs.Reader.{ok, Accepted, read};
 ghost use Rattle.meaning.specs.Writer.{loopFieldsZero, foreignFieldsZero, checkRecord, checkFrom, write};
-ghost use Rattle.records.specs.View.{blankRecord, loopOf, rawRecordOf};
+ghost use Rattle.records.specs.View.{blankRecord, rawRecordOf};
 ghost use Rattle.sheet.specs.Nestings.{nestingOf};
 ghost use Rattle.sheet.specs.Answers.{acceptedResult, acceptedOf, counted, withBlanks};
 ghost use Rattle.writer.specs.Answers.{writeResult};
@@ -25,10 +25,11 @@ use encoding::put::put_byte;
 use records::LOOP;
 use records::MAX_RECORDS;
 use records::MAX_SHEET_LENGTH;
-use records::NEXT_ARM;
 use records::Record;
 use records::Records;
+use records::SKIP_LOOP;
 use records::WORK;
+use records::is_kind;
 use records::loops::Loop;
 use records::work::Work;
 use sheet::nesting::Nesting;
@@ -60,12 +61,13 @@ fn work_blank(fields: Work) -> bool
     fields.least == 0 && fields.most == 0
 }
 
-// The fields of a loop are 0 where all bytes of the body are that they make.
-fn loop_blank(fields: Loop) -> bool
-    ensures { λ r. ⌜ r ≡ loopFieldsZero (loopOf fields) ⌝ }
+// The fields of a loop, its skip among them, are 0 where all bytes of the body are that they make.
+fn loop_blank(item: Record) -> bool
+    ensures { λ r. ⌜ r ≡ loopFieldsZero (rawRecordOf item) ⌝ }
 {
-    let mut body: [u8; Loop::BODY_LENGTH] = [0; Loop::BODY_LENGTH];
-    put_loop(&mut body, 0, fields);
+    let mut body: [u8; Loop::SKIP_BODY_LENGTH] = [0; Loop::SKIP_BODY_LENGTH];
+    let looping = item.looping;
+    put_loop(&mut body, 0, looping, true);
     all_blank(&body)
 }
 
@@ -74,14 +76,16 @@ fn foreign_blank(item: Record) -> bool
     ensures { λ r. ⌜ ((k : Kind) → kindOf (item .kind) ≡ some k → r ≡ foreignFieldsZero k (rawRecordOf item)) ⌝ }
 {
     let work = item.work;
-    let looping = item.looping;
     if item.kind == WORK {
-        return loop_blank(looping);
+        return loop_blank(item);
     }
-    if item.kind == LOOP {
+    if item.kind == SKIP_LOOP {
         return work_blank(work);
     }
-    work_blank(work) && loop_blank(looping)
+    if item.kind == LOOP {
+        return work_blank(work) && item.looping.skip == 0;
+    }
+    work_blank(work) && loop_blank(item)
 }
 
 // Refusals 2, 3 and 5, in this order, of a record at the offset that it would have. Its bytes are stored there; where it is refused they are not used.
@@ -92,7 +96,7 @@ fn lay_record(item: Record, at: usize, here: Nesting, sheet: &mut [u8]) -> Recor
         RecordLaid item at (a .accepted) (now (sheet .entry)) (now (sheet .exit))) ⌝ }
 {
     let kind = item.kind;
-    if kind < WORK || NEXT_ARM < kind {
+    if !is_kind(kind) {
         return RecordAnswer::Refused(Refusal {
             number: 2,
             offset: at,

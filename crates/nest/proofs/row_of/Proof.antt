@@ -20,6 +20,9 @@ cost-requires c κs = search needs
 cost-requires-2 : tie.Need-cost-requires-2
 cost-requires-2 c κs = search needs
 
+skip-cost-requires : tie.Need-skip-cost-requires
+skip-cost-requires c κs = search needs
+
 role-of-requires : tie.Need-role-of-requires
 role-of-requires c κs = search needs
 
@@ -28,14 +31,14 @@ add-end-of c = search needs
 
 add-end-of-2 : tie.Need-add-end-of-2
 add-end-of-2 c =
-    let start = c .before .before .before .before .before .before in
-    let next = next-by-body (start .pre) (c .before .before .before .body-at .ensures) in
+    let start = c .before .before .before .before .before .before .before in
+    let next = next-by-body (start .pre) (c .before .before .before .before .body-at .ensures) in
     record { fits = omega (arith, next, next-inside (start .pre), start .good) }
 
 end-of-requires : tie.Need-end-of-requires
 end-of-requires c κs =
-    let known = c .before .before .before .before .before .before .pre in
-    record { all = known .all; there = known .there; offset = next-by-body known (c .before .before .before .body-at .ensures) }
+    let known = c .before .before .before .before .before .before .before .pre in
+    record { all = known .all; there = known .there; offset = next-by-body known (c .before .before .before .before .body-at .ensures) }
 
 narrow-requires : tie.Need-narrow-requires
 narrow-requires c κs = search needs
@@ -53,10 +56,11 @@ returns : tie.Need-returns
 returns c =
     let ended = c .before .before .before .before in
     let role = ended .before in
-    let body = role .before .before .before in
+    let skip = role .before in
+    let body = skip .before .before .before in
     let end = c .before .before .before .narrow .ensures ∙ ap (λ (n : ℕ). n % 2 ^ 16) (ended .end-of .ensures) in
     row-is (body .before .before .before .pre) (body .before .byte-at .ensures) (body .body-at .ensures) (role .role-of .ensures)
-    (role .before .before .cost .ensures) (role .before .cost2 .ensures) end (c .before .before .narrow2 .ensures) (c .before .narrow3 .ensures)
+    (skip .before .before .cost .ensures) (skip .before .cost2 .ensures) (skip .skip-cost .ensures) end (c .before .before .narrow2 .ensures) (c .before .narrow3 .ensures)
     (c .narrow4 .ensures)
 
 pub row-of-spec : {M : Type 1} → statement M
@@ -67,6 +71,7 @@ row-of-spec =
     body-at-requires
     cost-requires
     cost-requires-2
+    skip-cost-requires
     role-of-requires
     add-end-of
     add-end-of-2

@@ -1,11 +1,10 @@
 -- Refusal 2, refusal 3, or what accepting says of the bytes that are stored, which are those of the record.
 use mathlib.Core.Path.{_≡_, sym, ap, _∙_}
 use mathlib.Core.List.{List}
-use mathlib.Core.Logic.{⊎-elim}
 use mathlib.Core.Option.{some}
 use Prim.Native.Nat.{ℕ}
 use native.Mathlib.Omega.{arith}
-use borrow.Author.Tests.{ltb-true, ltb-false, not-true, not-false}
+use borrow.Author.Tests.{not-true, not-false}
 use lib.ListN.{length}
 use Rattle.meaning.specs.Record.{Kind, kindOf, bodyLength, Open}
 use Rattle.meaning.specs.Reader.{refused}
@@ -21,11 +20,15 @@ use borrow.Author.Needs.{needs}
 use Rattle.writer.proofs.lay_record.Statement.{statement}
 use Rattle.writer.proofs.lay_record.Tie as tie
 
+is-kind-requires : tie.Need-is-kind-requires
+is-kind-requires c κs = search needs
+
 returns : tie.Need-returns
 returns c =
-    let a = c .before .before .args in
+    let known = c .before .is-kind in
+    let a = c .before .before .before .args in
     let refusal : (os : List Open) → refused 2 (a .at) ≡ acceptedOf (checkRecord (a .at) os (rawRecordOf (a .item))) = λ os.
-    check-no-kind (a .at) os (a .item) (λ above below. ⊎-elim (λ w. omega arith) (λ w. omega (arith, ltb-true)) (c .if1 .came)) in
+    check-no-kind (a .at) os (a .item) (sym (known .ensures) ∙ not-true (known .result) (c .if1 .taken)) in
     (λ os e. refusal os, λ os x e q. not-laid (a .at) os (a .item) (refusal os) q)
 
 foreign-blank-requires : tie.Need-foreign-blank-requires
@@ -37,7 +40,9 @@ module _ (c : tie.After-foreign-blank) where
   number = c .before .before .before .before .args .item .kind
 
   named : (k : Kind) × (kindOf number ≡ some k) × (lengthOfKind number ≡ bodyLength k)
-  named = some-kind number (omega arith) (omega (arith, ltb-false))
+  named =
+      let known = c .before .before .is-kind in
+      some-kind number (sym (known .ensures) ∙ not-false (known .result) (c .before .if1 .left))
 
 returns-2 : tie.Need-returns-2
 returns-2 c =
@@ -45,7 +50,7 @@ returns-2 c =
     let blank = c .before .foreign-blank in
     let a = c .before .before .before .before .before .args in
     let refusal : (os : List Open) → refused 3 (a .at) ≡ acceptedOf (checkRecord (a .at) os (rawRecordOf (a .item))) = λ os.
-    check-foreign (a .at) os (a .item) (n .1) (sym (not-true (blank .result) (c .if3 .taken)) ∙ blank .ensures (n .0) (n .1)) in
+    check-foreign (a .at) os (a .item) (n .1) (sym (not-true (blank .result) (c .if2 .taken)) ∙ blank .ensures (n .0) (n .1)) in
     (λ os e. refusal os, λ os x e q. not-laid (a .at) os (a .item) (refusal os) q)
 
 put-byte-requires : tie.Need-put-byte-requires
@@ -86,7 +91,7 @@ returns-3 c =
     let start = tested .before .before .before .before in
     let a = start .args in
     let n = named tested in
-    let blank = sym (not-false (tested .foreign-blank .result) (kind .before .before .if3 .left)) ∙ tested .foreign-blank .ensures (n .0) (n .1) in
+    let blank = sym (not-false (tested .foreign-blank .result) (kind .before .before .if2 .left)) ∙ tested .foreign-blank .ensures (n .0) (n .1) in
     let fits = record-fits (a .item) _ (start .good .0) in
     let stored = body .put-body .ensures (n .0) (n .1) in
     let part = between stored in (
@@ -99,6 +104,7 @@ pub lay-record-spec : {M : Type 1} → statement M
 lay-record-spec =
     tie.close
     (tie.spec
+    is-kind-requires
     returns
     foreign-blank-requires
     returns-2

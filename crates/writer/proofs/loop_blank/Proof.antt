@@ -1,11 +1,14 @@
 -- The bytes of the fields fill the body, and are all 0 exactly where the fields are.
 use mathlib.Core.Path.{ap, _∙_}
+use mathlib.Core.Bool.{true}
 use native.Mathlib.Omega.{arith}
+use Rattle.meaning.specs.Limits.{indexFactors}
+use Rattle.meaning.specs.Record.{isGiven, skipWhere, bodyLength}
+use Rattle.meaning.proofs.RecordBytes.{length-loop}
 use Rattle.encoding.proofs.Appending.{fills}
 use Rattle.records.specs.View.{loopOf}
 use Rattle.writer.specs.Writing.{allBlank}
-use Rattle.writer.proofs.Fits.{loop-fits}
-use Rattle.writer.proofs.Bodies.{loop-long}
+use Rattle.writer.proofs.Fits.{record-fits}
 use Rattle.writer.proofs.Blanks.{loop-blank}
 use borrow.Author.Needs.{needs}
 use Rattle.writer.proofs.loop_blank.Statement.{statement}
@@ -24,11 +27,13 @@ all-blank-requires : tie.Need-all-blank-requires
 all-blank-requires c κs = search needs
 
 returns : tie.Need-returns
+unfolding isGiven skipWhere bodyLength
 returns c =
-    let start = c .before .before .before .before .before in
-    let fits = loop-fits (start .args .fields) _ (start .good .0) in
-    let long = loop-long (loopOf (start .args .fields)) (fits .lowerFits) (fits .upperFits) in
-    c .all-blank .ensures ∙ ap allBlank (fills (c .before .before .before .put-loop .ensures) (omega (arith, long))) ∙ loop-blank fits
+    let start = c .before .before .before .before .before .before in
+    let item = start .args .item in
+    let fits = record-fits item _ (start .good .0) .loopFits in
+    let long = length-loop indexFactors (loopOf true (item .looping)) (fits .lowerFits) (fits .upperFits) in
+    c .all-blank .ensures ∙ ap allBlank (fills (c .before .before .before .put-loop .ensures) (omega (arith, long))) ∙ loop-blank item fits
 
 pub loop-blank-spec : {M : Type 1} → statement M
 loop-blank-spec =

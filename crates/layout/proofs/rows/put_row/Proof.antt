@@ -1,4 +1,4 @@
--- The nine numbers of a row, in the order of the definition, are pasted at the record's place, which lies within the rows.
+-- The ten numbers of a row, in the order of the definition, are pasted at the record's place, which lies within the rows.
 use Rattle.layout.specs.Rows.{rowNumbers}
 use borrow.Author.Needs.{needs}
 use Rattle.layout.proofs.rows.put_row.Statement.{statement}

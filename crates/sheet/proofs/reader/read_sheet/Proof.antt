@@ -1,5 +1,6 @@
 -- The check gives the answer and the count, by which the records are decoded; writing them gives the bytes of the sheet back.
 use mathlib.Core.Path.{ap, _∙_}
+use Rattle.meaning.proofs.FirstReaders.{read-as-before}
 use Rattle.sheet.specs.Answers.{orZero}
 use Rattle.sheet.proofs.WrittenBack.{bytes-all, written-back}
 use borrow.Author.Needs.{needs}
@@ -20,7 +21,7 @@ returns c =
     let checked = c .before .before .check-sheet in
     let sheet = c .before .before .before .before .args .sheet .now in
     let bytes = bytes-all sheet (λ i. c .before .before .before .shared-slice-known .given i .fits) in
-    (checked .ensures, (c .decode-all .ensures, written-back sheet bytes (checked .ensures) (c .decode-all .ensures)))
+    (checked .ensures, (c .decode-all .ensures, (written-back sheet bytes (checked .ensures) (c .decode-all .ensures), read-as-before sheet)))
 
 pub read-sheet-spec : {M : Type 1} → statement M
 read-sheet-spec =

@@ -1,64 +1,56 @@
--- The three numbers and the two forms are appended one after another.
-use Rattle.meaning.specs.Record.{bodyBytes}
-use Rattle.encoding.proofs.Appending.{same-bytes, andThen}
+-- What a loop without a skip has is appended, and then the skip where the loop has one.
+use mathlib.Core.Path.{sym, ap, _∙_}
+use mathlib.Core.Bool.{Bool, false}
+use native.Mathlib.Omega.{arith}
+use Rattle.meaning.specs.Limits.{indexFactors}
+use Rattle.meaning.specs.Record.{isGiven, skipWhere, bodyLength, loopRecord, bodyBytes}
+use Rattle.meaning.proofs.RecordBytes.{length-loop}
+use Rattle.encoding.proofs.Appending.{same-bytes, andThen, keeps-length}
+use Rattle.records.specs.View.{loopOf}
+use Rattle.writer.proofs.Fits.{loop-fits}
+use Rattle.writer.proofs.Bodies.{skip-after}
 use borrow.Author.Needs.{needs}
 use Rattle.writer.proofs.body.put_loop.Statement.{statement}
 use Rattle.writer.proofs.body.put_loop.Tie as tie
 
+put-plain-loop-requires : tie.Need-put-plain-loop-requires
+put-plain-loop-requires c κs = search needs
+
 put-unsigned16-requires : tie.Need-put-unsigned16-requires
-put-unsigned16-requires c κs = search needs
-
-put-unsigned16-requires-2 : tie.Need-put-unsigned16-requires-2
-put-unsigned16-requires-2 c κs = search needs
-
-put-unsigned16-requires-3 : tie.Need-put-unsigned16-requires-3
-put-unsigned16-requires-3 c κs = search needs
-
-form-bytes-requires : tie.Need-form-bytes-requires
-form-bytes-requires c κs = search needs
-
-form-bytes-requires-2 : tie.Need-form-bytes-requires-2
-form-bytes-requires-2 c κs = search needs
-
-slice-aggregate-put : tie.Need-slice-aggregate-put
-slice-aggregate-put c = search needs
-
-put-requires : tie.Need-put-requires
-put-requires c κs = search needs
-
-slice-aggregate-put-2 : tie.Need-slice-aggregate-put-2
-slice-aggregate-put-2 c = search needs
-
-put-requires-2 : tie.Need-put-requires-2
-put-requires-2 c κs = search needs
+unfolding isGiven skipWhere bodyLength
+put-unsigned16-requires c κs =
+    let plain = c .before .before .before .before in
+    let start = plain .before .before .before in
+    let fits = loop-fits (start .args .fields) _ (start .good .1 .1 .0) in
+    let long = length-loop indexFactors (loopOf false (start .args .fields)) (fits .lowerFits) (fits .upperFits) in
+    omega (arith, long, plain .put-plain-loop .ensures .ends, keeps-length (plain .put-plain-loop .ensures))
 
 same-length : tie.Need-same-length
 same-length c = search needs
 
 returns : tie.Need-returns
-unfolding bodyBytes
 returns c =
-    let upper = c .before .before in
-    let lower = upper .before .before .before .before .before in
-    let stride = lower .before .before .before .before .before .before .before .before .before in
-    let step = stride .before .before .before .before in
-    let start = step .before .before .before .before in
-    andThen (andThen (andThen (andThen (start .put-unsigned16 .ensures .0) (step .put-unsigned162 .ensures .0)) (stride .put-unsigned163 .ensures .0))
-    (same-bytes (lower .before .before .before .before .form-bytes .ensures) (lower .put .ensures)))
-    (same-bytes (lower .before .before .before .form-bytes2 .ensures) (upper .put2 .ensures))
+    let plain = c .before .before .before .before .before .before .before in
+    let fields = plain .before .before .before .args .fields in
+    same-bytes (skip-after fields ∙ sym (ap (λ (s : Bool). bodyBytes (loopRecord (loopOf s fields))) (c .before .before .before .before .if1 .taken)))
+    (andThen (plain .put-plain-loop .ensures) (c .before .before .put-unsigned16 .ensures .0))
+
+same-length-2 : tie.Need-same-length-2
+same-length-2 c = search needs
+
+returns-2 : tie.Need-returns-2
+returns-2 c =
+    let plain = c .before .before .before in
+    let fields = plain .before .before .before .args .fields in
+    same-bytes (sym (ap (λ (s : Bool). bodyBytes (loopRecord (loopOf s fields))) (c .if1 .left))) (plain .put-plain-loop .ensures)
 
 pub put-loop-spec : {M : Type 1} → statement M
 put-loop-spec =
     tie.close
     (tie.spec
+    put-plain-loop-requires
     put-unsigned16-requires
-    put-unsigned16-requires-2
-    put-unsigned16-requires-3
-    form-bytes-requires
-    form-bytes-requires-2
-    slice-aggregate-put
-    put-requires
-    slice-aggregate-put-2
-    put-requires-2
     same-length
-    returns)
+    returns
+    same-length-2
+    returns-2)
