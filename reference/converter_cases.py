@@ -23,7 +23,7 @@ from known_reasons import SKIPS
 from pumdalin.answers import Refusal
 from pumdalin.records import LOOP, SKIP_LOOP, encode_all, two_bytes_each
 from sheet import read
-from stored import main
+from stored import answered, main
 from walked import walked_case
 
 SEED = 2054
@@ -38,13 +38,7 @@ MOST_AREA = 32
 def converter_case(case: Conversion) -> bytes:
     assert len(case.buffer) <= MOST_BUFFER and len(case.area) <= MOST_AREA, case.tells
     converted = case.converted()
-    result = stored(converted, case.buffer)
-    if isinstance(result.answer, Refusal):
-        number, value = result.answer
-        new = b""
-    else:
-        number, value = 0, result.answer
-        new = result.buffer[:value]
+    number, value, new = answered(stored(converted, case.buffer))
     follows = bytes([convert_called(converted, case.buffer, case.area).number]) + new
     head = bytes([WHICH[case.kind], number])
     head += two_bytes_each(len(case.sheet), len(follows), value, len(case.area), len(case.buffer))

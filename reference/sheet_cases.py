@@ -26,7 +26,7 @@ from kept import kept_cases
 from pumdalin.answers import Refusal
 from pumdalin.records import BODY_LENGTH, MOST_RECORDS, SKIP_LOOP, encode_all, encode_form, two_bytes_each
 from sheet import RawRecord, raw, read, write
-from stored import main
+from stored import answered, main
 from writer_cases import WRITER_CASES, WriterCase
 
 SEED = 2049
@@ -62,13 +62,7 @@ def reader_case(sheet: bytes) -> bytes:
 
 def writer_case(case: WriterCase) -> bytes:
     """What the writer is given, and the sheet that it writes or its refusal."""
-    result = write(case.entries, case.count, case.buffer)
-    if isinstance(result.answer, Refusal):
-        number, value = result.answer
-        sheet = b""
-    else:
-        number, value = 0, result.answer
-        sheet = result.buffer[:value]
+    number, value, sheet = answered(write(case.entries, case.count, case.buffer))
     head = bytes([WRITER, number])
     head += two_bytes_each(len(sheet), len(case.entries), value, case.count, len(case.buffer))
     return head + sheet + b"".join(map(entry_bytes, case.entries))

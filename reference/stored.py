@@ -1,8 +1,19 @@
-"""What the generators of files share: writing or comparing a file."""
+"""What the generators of files share: a sheet that was written or its refusal, and writing or comparing a file."""
 
 import argparse
 import sys
 from typing import Callable
+
+from pumdalin.answers import Refusal
+from sheet import Written
+
+
+def answered(written: Written) -> tuple[int, int, bytes]:
+    """A refusal's number and place and no sheet; or 0, the sheet's length and the sheet."""
+    if isinstance(written.answer, Refusal):
+        number, place = written.answer
+        return number, place, b""
+    return 0, written.answer, written.buffer[:written.answer]
 
 
 def main(all_cases: Callable[[], bytes]) -> None:
