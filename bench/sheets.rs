@@ -11,8 +11,8 @@ fn a_loop(lower: Vec<u8>, upper: Vec<u8>) -> Vec<u8> {
     a_loop_by(1, lower, upper)
 }
 
-fn a_loop_by(stride: u8, lower: Vec<u8>, upper: Vec<u8>) -> Vec<u8> {
-    [vec![2, 2, 0, 1, 0, stride, 0], lower, upper].concat()
+fn a_loop_by(stride: i16, lower: Vec<u8>, upper: Vec<u8>) -> Vec<u8> {
+    [vec![2, 2, 0, 1, 0], stride.to_le_bytes().to_vec(), lower, upper].concat()
 }
 
 /// Four loops of so many trips, each starting where the one around it stands.
@@ -62,11 +62,13 @@ pub fn timed() -> Vec<Timed> {
     let walked = |trips: i16| [a_loop(form(0, [0; 3]), form(trips - 1, [0; 3])), vec![4]].concat();
     let inner = [a_loop(form(0, [0; 3]), form(0, [0; 3])), work.clone(), vec![3]].concat();
     let arm = [a_loop(form(0, [0; 3]), form(-1, [1, 0, 0])), work.clone(), vec![3, 5]].concat();
+    let falling = [a_loop_by(-1, form(9, [0; 3]), form(0, [0; 3])), a_loop_by(-1, form(-1, [1, 0, 0]), form(0, [0; 3]))].concat();
     let halves = [a_loop(form(0, [0; 3]), form(9, [0; 3])), a_loop_by(2, form(0, [0; 3]), form(0, [1, 0, 0]))].concat();
     vec![
         one("empty sheet", vec![]),
         one("one loop of ten trips", [a_loop(form(0, [0; 3]), form(9, [0; 3])), work.clone(), vec![3]].concat()),
         one("triangle", [triangle, work.clone(), vec![3, 3]].concat()),
+        one("triangle, counting down", [falling, work.clone(), vec![3, 3]].concat()),
         one("small walked nest", [halves, work.clone(), vec![3, 3]].concat()),
         Timed {
             name: "the 11 known calls, together",

@@ -19,7 +19,10 @@ static const uint8_t both_kinds[] = {
 static const uint8_t kind_6[] = {
     WORK(3, 5), SKIP_LOOP(4, 1, 1), CONSTANT(0), CONSTANT(9), SKIP(4), CHOICE_OF_WORK,
     SKIP_LOOP(7, 0, 2), INDEX_I(0), PARAMETER_1, SKIP(7), END, END};
-/* Of the last, what kind 2 can't say: the inner loop has another skip than its start. */
+/* A loop that counts down, of either kind: the stride keeps its sign. */
+static const uint8_t down_2[] = {LOOP(4, 1, -1), PARAMETER_1, CONSTANT(1), WORK(3, 5), END};
+static const uint8_t down_6[] = {SKIP_LOOP(4, 1, -1), PARAMETER_1, CONSTANT(1), SKIP(4), WORK(3, 5), END};
+/* Of the nest with kind 6, what kind 2 can't say: the inner loop has another skip than its start. */
 static const uint8_t other_skip[] = {
     WORK(3, 5), SKIP_LOOP(4, 1, 1), CONSTANT(0), CONSTANT(9), SKIP(4), CHOICE_OF_WORK,
     SKIP_LOOP(7, 0, 2), INDEX_I(0), PARAMETER_1, SKIP(2), END, END};
@@ -60,6 +63,8 @@ static const struct call calls[] = {
     {"kind 6 to 2", TO_2, WHOLE(kind_6), sizeof kind_2, AREA, 0, WHOLE(kind_2)},
     {"both kinds to 2", TO_2, WHOLE(both_kinds), ROOM, AREA, 0, WHOLE(kind_2)},
     {"kind 2 to 2", TO_2, WHOLE(kind_2), ROOM, AREA, 0, WHOLE(kind_2)},
+    {"counting down, to 6", TO_6, WHOLE(down_2), ROOM, AREA, 0, WHOLE(down_6)},
+    {"counting down, to 2", TO_2, WHOLE(down_6), ROOM, AREA, 0, WHOLE(down_2)},
     {"most loops to 6", TO_6, WHOLE(most_loops), sizeof most_skips, AREA, 0, WHOLE(most_skips)},
     {"most loops to 2", TO_2, WHOLE(most_skips), sizeof most_loops, AREA, 0, WHOLE(most_loops)},
     {"empty sheet to 6, no room", TO_6, kind_2, 0, 0, AREA, 0, kind_2, 0},

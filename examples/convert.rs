@@ -12,24 +12,32 @@ use pumdalin::{convert, converted, figures, Loops, LENGTH_AREA_LENGTH, SHEET_LEN
 use records::{a_loop, constant, index_i, nest, parameter_1, skip_loop, work};
 use std::process::ExitCode;
 
-const OUTER: [u16; 3] = [4, 1, 1];
-const INNER: [u16; 3] = [7, 0, 2];
+/// Start and step.
+const OUTER: [u16; 2] = [4, 1];
+const INNER: [u16; 2] = [7, 0];
 
 /// A nest of two loops of kind 2.
 fn kind_2() -> Vec<u8> {
-    nest(&[a_loop(OUTER, constant(0), constant(9)), a_loop(INNER, index_i(0), parameter_1())], work(3, 5))
+    nest(&[a_loop(OUTER, 1, constant(0), constant(9)), a_loop(INNER, 2, index_i(0), parameter_1())], work(3, 5))
 }
 
 /// The same with loops of kind 6, the inner one with this skip.
 fn kind_6(skip: u16) -> Vec<u8> {
-    let outer = skip_loop(OUTER, constant(0), constant(9), OUTER[0]);
-    nest(&[outer, skip_loop(INNER, index_i(0), parameter_1(), skip)], work(3, 5))
+    let outer = skip_loop(OUTER, 1, constant(0), constant(9), OUTER[0]);
+    nest(&[outer, skip_loop(INNER, 2, index_i(0), parameter_1(), skip)], work(3, 5))
 }
 
 /// The same with one of each kind.
 fn both_kinds() -> Vec<u8> {
-    let outer = a_loop(OUTER, constant(0), constant(9));
-    nest(&[outer, skip_loop(INNER, index_i(0), parameter_1(), INNER[0])], work(3, 5))
+    let outer = a_loop(OUTER, 1, constant(0), constant(9));
+    nest(&[outer, skip_loop(INNER, 2, index_i(0), parameter_1(), INNER[0])], work(3, 5))
+}
+
+/// A loop that counts down, of kind 2 and of kind 6: the stride keeps its sign.
+fn down() -> [Vec<u8>; 2] {
+    let kind_2 = a_loop(OUTER, -1, parameter_1(), constant(1));
+    let kind_6 = skip_loop(OUTER, -1, parameter_1(), constant(1), OUTER[0]);
+    [kind_2, kind_6].map(|outer| nest(&[outer], work(3, 5)))
 }
 
 struct Call {
@@ -49,12 +57,15 @@ fn calls() -> Vec<Call> {
     let (plain, skips, other) = (kind_2(), kind_6(INNER[0]), kind_6(2));
     let left_open = plain[..plain.len() - 1].to_vec();
     let cut_off = skips[..26].to_vec();
+    let [down_2, down_6] = down();
     vec![
         call("kind 2 to 6", plain.clone(), WithSkips, Ok(skips.clone())),
         call("both kinds to 6", both_kinds(), WithSkips, Ok(skips.clone())),
         call("another skip to 6", other.clone(), WithSkips, Ok(other.clone())),
         call("kind 6 to 2", skips.clone(), WithoutSkips, Ok(plain.clone())),
         call("both kinds to 2", both_kinds(), WithoutSkips, Ok(plain.clone())),
+        call("counting down, to 6", down_2.clone(), WithSkips, Ok(down_6.clone())),
+        call("counting down, to 2", down_6, WithoutSkips, Ok(down_2)),
         Call { room: skips.len(), area_length: 9, ..call("just enough room", plain.clone(), WithSkips, Ok(skips.clone())) },
         Call { room: 0, ..call("empty sheet", vec![], WithSkips, Ok(vec![])) },
         call("a loop cut off", cut_off, WithSkips, Err(1)),

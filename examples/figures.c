@@ -40,6 +40,15 @@ static const uint8_t skipped[] = {SKIP_LOOP(5, 1, 1), CONSTANT(0), CONSTANT(-1),
 static const uint8_t first_skipped[] = {
     LOOP(0, 0, 1), CONSTANT(0), CONSTANT(9),
     SKIP_LOOP(4, 0, 1), CONSTANT(0), INDEX_I(-1), SKIP(1), WORK(1, 1), END, END};
+/* From the last nozzle to the first, each with as many pulses as its number. */
+static const uint8_t flush[] = {
+    LOOP(0, 0, -1), PARAMETER_1, CONSTANT(1),
+    LOOP(0, 0, -1), INDEX_I(0), CONSTANT(1), WORK(4, 7), END, END};
+static const uint8_t uneven_down[] = {
+    LOOP(0, 0, -1), CONSTANT(9), CONSTANT(0),
+    LOOP(0, 0, -2), INDEX_I(0), CONSTANT(0), WORK(1, 1), END, END};
+static const uint8_t stride_0[] = {LOOP(0, 0, 0), CONSTANT(9), CONSTANT(0), END};
+static const uint8_t stride_below[] = {LOOP(0, 0, -1001), CONSTANT(9), CONSTANT(0), END};
 static const uint8_t too_large_skip[] = {SKIP_LOOP(5, 1, 1), CONSTANT(0), CONSTANT(-1), SKIP(4096), END};
 static const uint8_t kind_7[] = {7};
 static const uint8_t least_above_most[] = {WORK(5, 3)};
@@ -74,12 +83,17 @@ static const struct call calls[] = {
     {"i 0 to 2,047", WHOLE(longest_loop), 0, 100, AREA, 0, {2048, 2048, 1}},
     {"start 5, skip 2, i 0 to -1", WHOLE(skipped), 0, 100, AREA, 0, {2, 2, 0}},
     {"i 0 to 9, j 0 to i - 1 with start 4, skip 1", WHOLE(first_skipped), 0, 100, AREA, 0, {82, 82, 19}},
+    {"i N to 1 by -1, j i to 1 by -1, work 4 to 7, N 16", WHOLE(flush), 16, 100, AREA, 0, {544, 952, 4}},
+    {"i N to 1 by -1, j i to 1 by -1, work 4 to 7, N 0", WHOLE(flush), 0, 100, AREA, 0, {0, 0, 0}},
+    {"i 9 to 0 by -1, j i to 0 by -2", WHOLE(uneven_down), 0, 100, AREA, 0, {30, 30, 20}},
     {"20 visits, budget 20", WHOLE(uneven), 0, 20, AREA, 0, {30, 30, 20}},
     {"an area of 32 bytes", WHOLE(costs), 0, 100, AREA + 8, 0, {42, 62, 1}},
     {"a loop cut off", triangle, 20, 0, 100, AREA, PUMDALIN_CUT_OFF, {0}},
     {"a loop with a skip, cut off", skipped, 26, 0, 100, AREA, PUMDALIN_CUT_OFF, {0}},
     {"kind 7", WHOLE(kind_7), 0, 100, AREA, PUMDALIN_NO_SUCH_KIND, {0}},
     {"a skip of 4,096", WHOLE(too_large_skip), 0, 100, AREA, PUMDALIN_FIELD, {0}},
+    {"a stride of 0", WHOLE(stride_0), 0, 100, AREA, PUMDALIN_FIELD, {0}},
+    {"a stride of -1,001", WHOLE(stride_below), 0, 100, AREA, PUMDALIN_FIELD, {0}},
     {"a least above its most", WHOLE(least_above_most), 0, 100, AREA, PUMDALIN_FIELD, {0}},
     {"65 records", WHOLE(records_65), 0, 100, AREA, PUMDALIN_TOO_MANY_RECORDS, {0}},
     {"a loop left open", costs, sizeof costs - 1, 0, 100, AREA, PUMDALIN_NESTING, {0}},

@@ -13,11 +13,11 @@ use std::process::ExitCode;
 
 /// A loop without costs that goes up by 1.
 fn plain(lower: Vec<u8>, upper: Vec<u8>) -> Vec<u8> {
-    a_loop([0, 0, 1], lower, upper)
+    by(1, lower, upper)
 }
 
-fn by_2(lower: Vec<u8>, upper: Vec<u8>) -> Vec<u8> {
-    a_loop([0, 0, 2], lower, upper)
+fn by(stride: i16, lower: Vec<u8>, upper: Vec<u8>) -> Vec<u8> {
+    a_loop([0, 0], stride, lower, upper)
 }
 
 struct Call {
@@ -42,7 +42,7 @@ fn refused(tells: &'static str, sheet: Vec<u8>, number: u32) -> Call {
 }
 
 fn costs() -> Vec<u8> {
-    nest(&[a_loop([2, 1, 1], constant(0), constant(9))], work(3, 5))
+    nest(&[a_loop([2, 1], 1, constant(0), constant(9))], work(3, 5))
 }
 
 fn triangle() -> Vec<u8> {
@@ -50,7 +50,12 @@ fn triangle() -> Vec<u8> {
 }
 
 fn uneven() -> Vec<u8> {
-    nest(&[plain(constant(0), constant(9)), by_2(constant(0), index_i(0))], work(1, 1))
+    nest(&[plain(constant(0), constant(9)), by(2, constant(0), index_i(0))], work(1, 1))
+}
+
+/// From the last nozzle to the first, each with as many pulses as its number; N is parameter 1.
+fn flush() -> Vec<u8> {
+    nest(&[by(-1, parameter_1(), constant(1)), by(-1, index_i(0), constant(1))], work(4, 7))
 }
 
 fn parameter() -> Vec<u8> {
@@ -65,7 +70,7 @@ fn loop_in_arm() -> Vec<u8> {
 
 /// A loop that makes no trip.
 fn skipped(skip: u16) -> Vec<u8> {
-    nest(&[skip_loop([5, 1, 1], constant(0), constant(-1), skip)], work(1, 1))
+    nest(&[skip_loop([5, 1], 1, constant(0), constant(-1), skip)], work(1, 1))
 }
 
 fn up_to(last: i16) -> Vec<u8> {
@@ -74,14 +79,15 @@ fn up_to(last: i16) -> Vec<u8> {
 
 fn answered_calls() -> Vec<Call> {
     let partly_empty = [plain(constant(1), constant(7)), plain(index_i(0), constant(2))];
-    let even = [by_2(constant(0), constant(18)), by_2(constant(0), index_i(0))];
+    let even = [by(2, constant(0), constant(18)), by(2, constant(0), index_i(0))];
     let three_deep = [
         plain(constant(0), constant(9)),
         plain(index_i(0), constant(10)),
         plain(index_i(-3), form(7, [0, 1, 0], 0)),
     ];
-    let no_trip = [a_loop([0, 0, 3], constant(0), constant(-1))];
-    let first_skipped = [plain(constant(0), constant(9)), skip_loop([4, 0, 1], constant(0), index_i(-1), 1)];
+    let no_trip = [by(3, constant(0), constant(-1))];
+    let first_skipped = [plain(constant(0), constant(9)), skip_loop([4, 0], 1, constant(0), index_i(-1), 1)];
+    let uneven_down = [by(-1, constant(9), constant(0)), by(-2, index_i(0), constant(0))];
     vec![
         answered("empty sheet", vec![], 0, 0, 0),
         answered("start 2, step 1, i 0 to 9, work 3 to 5", costs(), 42, 62, 1),
@@ -97,6 +103,9 @@ fn answered_calls() -> Vec<Call> {
         answered("i 0 to 2,047", up_to(2047), 2048, 2048, 1),
         answered("start 5, skip 2, i 0 to -1", skipped(2), 2, 2, 0),
         answered("i 0 to 9, j 0 to i - 1 with start 4, skip 1", nest(&first_skipped, work(1, 1)), 82, 82, 19),
+        Call { p1: 16, ..answered("i N to 1 by -1, j i to 1 by -1, work 4 to 7, N 16", flush(), 544, 952, 4) },
+        answered("i N to 1 by -1, j i to 1 by -1, work 4 to 7, N 0", flush(), 0, 0, 0),
+        answered("i 9 to 0 by -1, j i to 0 by -2", nest(&uneven_down, work(1, 1)), 30, 30, 20),
         Call { budget: 20, ..answered("20 visits, budget 20", uneven(), 30, 30, 20) },
         Call { area_length: 32, ..answered("an area of 32 bytes", costs(), 42, 62, 1) },
     ]
@@ -110,6 +119,8 @@ fn refused_calls() -> Vec<Call> {
         refused("a loop with a skip, cut off", skipped(2)[..26].to_vec(), 1),
         refused("kind 7", vec![7], 2),
         refused("a skip of 4,096", skipped(4096), 3),
+        refused("a stride of 0", nest(&[by(0, constant(9), constant(0))], vec![]), 3),
+        refused("a stride of -1,001", nest(&[by(-1001, constant(9), constant(0))], vec![]), 3),
         refused("a least above its most", work(5, 3), 3),
         refused("65 records", records_65, 4),
         refused("a loop left open", left_open, 5),

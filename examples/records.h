@@ -1,5 +1,6 @@
-/* Sheets as constants of C. Two bytes of a number are the low one and the high one; a loop is followed by its lower form and its
- * upper form, and one of kind 6 by its skip after these. */
+/* Sheets as constants of C. Two bytes of a number are the low one and the high one, of a negative one in two's complement; a
+ * loop is followed by its lower form, where it starts, and its upper form, where it ends, and one of kind 6 by its skip after
+ * these. A loop with a negative stride counts down. */
 #ifndef RECORDS_H
 #define RECORDS_H
 

@@ -27,14 +27,15 @@ pub fn parameter_1() -> Vec<u8> {
     form(0, [0; 3], 1)
 }
 
-pub fn a_loop([start, step, stride]: [u16; 3], lower: Vec<u8>, upper: Vec<u8>) -> Vec<u8> {
-    let costs = [start, step, stride].map(u16::to_le_bytes).concat();
-    [vec![2], costs, lower, upper].concat()
+/// A loop from its lower to its upper form; one with a negative stride counts down.
+pub fn a_loop([start, step]: [u16; 2], stride: i16, lower: Vec<u8>, upper: Vec<u8>) -> Vec<u8> {
+    let numbers = [start.to_le_bytes(), step.to_le_bytes(), stride.to_le_bytes()].concat();
+    [vec![2], numbers, lower, upper].concat()
 }
 
 /// A loop of kind 6.
-pub fn skip_loop(costs: [u16; 3], lower: Vec<u8>, upper: Vec<u8>, skip: u16) -> Vec<u8> {
-    let mut record = [a_loop(costs, lower, upper), skip.to_le_bytes().to_vec()].concat();
+pub fn skip_loop(costs: [u16; 2], stride: i16, lower: Vec<u8>, upper: Vec<u8>, skip: u16) -> Vec<u8> {
+    let mut record = [a_loop(costs, stride, lower, upper), skip.to_le_bytes().to_vec()].concat();
     record[0] = 6;
     record
 }

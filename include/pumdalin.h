@@ -76,7 +76,7 @@ uint32_t pumdalin_with_skips(const uint8_t *sheet, size_t sheet_length,
 
 /* The way back, for programs that know no kind 6: each loop of kind 6 is made one of kind 2. After 1 to 5 and before 9 it is
  * refused 10 where a loop's skip differs from its start. What pumdalin_with_skips made of a sheet without kind 6 becomes that
- * sheet again. */
+ * sheet again. Both calls keep each loop's stride with its sign; programs that know no negative stride refuse it with 3. */
 uint32_t pumdalin_without_skips(const uint8_t *sheet, size_t sheet_length,
                                 uint8_t *sheet_out, size_t sheet_out_length,
                                 uint8_t *answer, size_t answer_length);

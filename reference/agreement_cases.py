@@ -14,6 +14,7 @@ from conversions import CONVERTERS, Conversion, with_equal_skips
 from converter_cases import kept_conversions
 from figure_cases import with_edges
 from generate import SIZES, Case, cases
+from kept import kept_readings
 from known import ZERO
 from known_reasons import KNOWN_REASONS
 from pumdalin.answers import Answer, Refusal
@@ -76,9 +77,9 @@ def listing_cases(path: Path) -> list[Expected]:
 
 
 def kept_trials() -> list[Trial]:
-    """The readings, the telling sheets, and the cases of all C calls and of `bound`."""
+    """The readings of all files, and the cases of all C calls and of `bound`."""
     trials: list[Trial] = []
-    for line in readings.parse_file(readings.READINGS) + readings.parse_file(readings.TELLING):
+    for line in kept_readings():
         case = Case("reading", line.sheet, line.parameters, line.budget)
         trials.append(trial(Expected(f"reading '{line.tells}'", case, line.answer)))
     for kept in C_CALL_CASES:

@@ -187,7 +187,7 @@ def form(value: Form) -> str:
 
 
 def loop_of(loop: Loop) -> str:
-    numbers = [str(loop.start), str(loop.step), str(loop.stride)]
+    numbers = [str(loop.start), str(loop.step), inner(integer(loop.stride))]
     fields = [*numbers, inner(form(loop.lower)), inner(form(loop.upper))]
     if loop.skip is None:
         return term("loop of", *fields)
@@ -205,8 +205,9 @@ def record(value: Record, loop_name: Optional[str] = None) -> str:
 
 def raw_record(entry: RawRecord) -> str:
     """An entry of the writer: kind, then every field of every kind."""
-    numbers = [str(number) for number in entry[:6]]
-    return term("raw", *numbers, inner(form(entry.lower)), inner(form(entry.upper)), str(entry.skip))
+    numbers = [str(entry.kind), str(entry.least), str(entry.most), str(entry.start), str(entry.step)]
+    stride = inner(integer(entry.stride))
+    return term("raw", *numbers, stride, inner(form(entry.lower)), inner(form(entry.upper)), str(entry.skip))
 
 
 def answer(value: Answer) -> str:

@@ -16,6 +16,7 @@ ONE_WORK = encode(Work(3, 5))
 WIDE = encode_all([Work(1, 300), span(0, 2047, start=4095, step=4095), Work(0, 4095), End()])
 NO_TRIP = encode_all([span(0, -1, start=5, step=9, skip=2), Work(3, 5), End()])
 SKIPPED = encode_all([span(0, 3), loop(form(), form(-1, i=1), start=5, skip=1), Work(3, 5), End(), End()])
+DOWN = encode_all([span(9, 0, -1), loop(form(i=1), form(), -2), Work(1, 2), End(), End()])
 SMALL = encode_all([Choice(), span(0, 3), Work(1, 2), End(), NextArm(), End()])
 
 
@@ -52,6 +53,8 @@ C_CALL_CASES = [
     CallCase("5, open at the end", b"\x04", ZERO, 1, area(24)),
     CallCase("6", encode_all([span(0, 2048), End()]), ZERO, 1, area(24)),
     CallCase("skip in place of start", NO_TRIP, ZERO, 1, area(24)),
+    CallCase("counting down", DOWN, ZERO, 20, area(24)),
+    CallCase("counting down, stride -1,001", encode_all([span(1, 0, -1001), End()]), ZERO, 1, area(24)),
     CallCase("20 visits, budget 20", UNEVEN, ZERO, 20, area(24)),
     CallCase("20 visits, budget 19", UNEVEN, ZERO, 19, area(24)),
 ]
@@ -112,6 +115,7 @@ TEXT_CASES = [
     TextCase("2 at a place of two digits", program_input(ONE_WORK * 2 + b"\x07")),
     TextCase("skip in place of start", program_input(NO_TRIP)),
     TextCase("walked, since skip and start differ", program_input(SKIPPED)),
+    TextCase("counting down, walked", program_input(DOWN)),
     TextCase("budget 0", program_input(TRIANGLE, ZERO, 0)),
     TextCase("budget's third byte", program_input(ONE_WORK, ZERO, 65536)),
     TextCase("budget's fourth byte", program_input(ONE_WORK, ZERO, 2 ** 24 + 1)),

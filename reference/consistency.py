@@ -6,7 +6,7 @@ from random import Random
 import stages
 import trips
 from calls import answer
-from nest import LoopFacts, facts, loop_reports, subtract, value
+from nest import LoopFacts, Range, facts, index_range, loop_reports, value
 from pumdalin.answers import Figures, Refusal
 from pumdalin.inputs import Parameters
 from pumdalin.records import Choice, End, Form, Loop, Record, Work, encode_all, offsets
@@ -77,37 +77,61 @@ def check_answer(records: list[Record], parameters: Parameters, figures: Figures
         assert answer(sheet, parameters, figures.visits - 1) == Refusal(8, 0)
 
 
+def trip_indexes(loop: Loop, indexes: list[int], parameters: Parameters) -> range:
+    """The index of each trip, by counting: from the lower form by the stride, until the upper form is passed."""
+    past = 1 if loop.stride > 0 else -1
+    return range(value(loop.lower, indexes, parameters), value(loop.upper, indexes, parameters) + past, loop.stride)
+
+
+def distance(loop: Loop, indexes: list[int], parameters: Parameters) -> int:
+    """D from the values of both forms: how far it is from the lower to the upper, the way that the loop counts."""
+    way = value(loop.upper, indexes, parameters) - value(loop.lower, indexes, parameters)
+    return way if loop.stride > 0 else -way
+
+
 def check_ceilings(records: list[Record], parameters: Parameters, random: Random) -> None:
-    """No trip count met on a random way down passes the ceiling or leaves the range of D."""
+    """On a random way down trips are as counted, none passes its ceiling, and D and indexes are in their ranges."""
     known = facts(records, parameters)
 
-    def go_down(body: Body, indexes: list[int]) -> None:
+    def go_down(body: Body, indexes: list[int], ranges: list[Range]) -> None:
         for node in loops_directly_in(body):
-            count = trips.trips_of(node.loop, indexes, parameters)
+            counted = trip_indexes(node.loop, indexes, parameters)
             fact = known[node.position]
-            assert count <= fact.ceiling
-            difference = value(subtract(node.loop.upper, node.loop.lower), indexes, parameters)
-            assert fact.difference.smallest <= difference <= fact.difference.largest
-            if count > 0:
-                counter = random.randrange(count)
+            assert trips.trips_of(node.loop, indexes, parameters) == len(counted) <= fact.ceiling
+            assert fact.difference.smallest <= distance(node.loop, indexes, parameters) <= fact.difference.largest
+            if counted:
+                counter = random.randrange(len(counted))
                 index = trips.index_of(node.loop, counter, indexes, parameters)
-                go_down(node.body, indexes + [index])
+                own = index_range(node.loop, ranges, parameters)
+                assert index == counted[counter] and own.smallest <= index <= own.largest
+                go_down(node.body, indexes + [index], ranges + [own])
 
-    go_down(tree(records), [])
+    go_down(tree(records), [], [])
 
 
-def corners(form: Form, boxes: list[tuple[int, int]], parameters: Parameters) -> list[int]:
+Box = tuple[int, int]
+
+
+def corners(form: Form, boxes: list[Box], parameters: Parameters) -> list[int]:
     """The form at all corners of the boxes of the indexes."""
     return [value(form, list(corner), parameters) for corner in product(*boxes)]
 
 
-def push_by_definition(path: list[Loop], form: Form, mover: int, parameters: Parameters) -> int:
-    """What one more trip of `path[mover]` adds to a form, the other counters held."""
+def index_box(loop: Loop, boxes: list[Box], parameters: Parameters) -> Box:
+    """The range of a loop's index, by corners."""
+    lower, upper = corners(loop.lower, boxes, parameters), corners(loop.upper, boxes, parameters)
+    if loop.stride > 0:
+        return min(lower), max(min(lower), *upper)
+    return min(max(lower), *upper), max(lower)
+
+
+def push_by_definition(path: list[Loop], inner: Loop, mover: int, parameters: Parameters) -> int:
+    """What one more trip of `path[mover]` adds to D of a loop inside, the other counters held."""
     def at(counters: list[int]) -> int:
         indexes: list[int] = []
         for loop, counter in zip(path, counters):
             indexes.append(trips.index_of(loop, counter, indexes, parameters))
-        return value(form, indexes, parameters)
+        return distance(inner, indexes, parameters)
 
     counters = [3 + depth for depth in range(len(path))]
     moved = [c + (1 if depth == mover else 0) for depth, c in enumerate(counters)]
@@ -118,13 +142,11 @@ def check_facts(records: list[Record], parameters: Parameters) -> None:
     """Ranges by corners; then why loops are walked."""
     known = facts(records, parameters)
 
-    def go_down(body: Body, boxes: list[tuple[int, int]]) -> None:
+    def go_down(body: Body, boxes: list[Box]) -> None:
         for node in loops_directly_in(body):
-            all_d = corners(subtract(node.loop.upper, node.loop.lower), boxes, parameters)
+            all_d = [distance(node.loop, list(corner), parameters) for corner in product(*boxes)]
             assert known[node.position].difference == (min(all_d), max(all_d))
-            lo = min(corners(node.loop.lower, boxes, parameters))
-            hi = max(lo, max(corners(node.loop.upper, boxes, parameters)))
-            go_down(node.body, boxes + [(lo, hi)])
+            go_down(node.body, boxes + [index_box(node.loop, boxes, parameters)])
 
     go_down(tree(records), [])
     check_reasons(records, parameters, known)
@@ -167,15 +189,16 @@ def failing_tests(
     ]
     for at in loops:
         loop = records[at]
+        size = max(loop.stride, -loop.stride)
         # document 02, C-12: 0 where no trip costs other than start
-        asked = -loop.stride if loop.skip in (None, loop.start) else 0
+        asked = -size if loop.skip in (None, loop.start) else 0
         if known[at].difference.smallest < asked:
             found.append(TooFewTrips(places[at]))
         around = [outer for outer in open_records[at] if isinstance(records[outer], Loop)]
         path = [records[outer] for outer in around]
         for mover, outer in enumerate(around):
-            push = push_by_definition(path, subtract(loop.upper, loop.lower), mover, parameters)
-            if outer >= walked and push % loop.stride != 0:
+            push = push_by_definition(path, loop, mover, parameters)
+            if outer >= walked and push % size != 0:
                 found.append(UnevenIn(places[at], places[outer]))
     return found
 

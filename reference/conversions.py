@@ -65,6 +65,11 @@ BELOW = [span(0, 3, start=3, skip=1), END]
 ABOVE = [span(0, 3, start=3, skip=4), END]
 SECOND_BYTE = [span(0, 3, start=3, skip=3 + 256), END]
 NO_LOOP: list[Record] = [Choice(), Work(1, 300), NextArm(), END]
+# Loops that count down; the bytes of -769 differ.
+PLAIN_DOWN = [span(3, 0, -769, start=3), END]
+EQUAL_DOWN = [span(3, 0, -769, start=3, skip=3), END]
+BELOW_DOWN = [span(3, 0, -1000, start=3, skip=1), END]
+NESTED_DOWN = [span(3, 0, -1, start=258), loop(form(i=1), form(i=-1), -1000, start=3, skip=3), UNIT, END, END]
 # All kinds; the loop inside has a factor.
 ALL_KINDS = [
     Choice(), span(-2, 4095, stride=3, start=258, step=7), loop(form(i=-1), form(5, i=1), skip=772), UNIT, END, END,
@@ -81,6 +86,7 @@ LONGEST = [
 ]
 SHORT_LOOP = encode_all(EQUAL)[:26]
 HIGH_SKIP = encode_all([span(0, 3, skip=4096), END])
+LONG_STRIDE = encode_all([span(3, 0, -1001, start=3, skip=3), END])
 TOO_MANY = b"\x04\x03" * 32 + b"\x03"
 
 TO_SKIPS = [
@@ -95,6 +101,10 @@ TO_SKIPS = [
     conversion("to kind 6, no loop, buffer one byte short", SKIP_LOOP, NO_LOOP, spare=-1),
     conversion("to kind 6, empty sheet", SKIP_LOOP, []),
     conversion("to kind 6, empty sheet, the buffer stays", SKIP_LOOP, [], spare=2),
+    conversion("to kind 6, a loop that counts down", SKIP_LOOP, PLAIN_DOWN),
+    conversion("kind 6 stays, a loop that counts down", SKIP_LOOP, BELOW_DOWN),
+    conversion("to kind 6, loops that count down, both kinds", SKIP_LOOP, NESTED_DOWN),
+    refused("to kind 6, stride -1,001", SKIP_LOOP, 3, 0, LONG_STRIDE, 30, 8),
     refused("to kind 6, 1 before 9", SKIP_LOOP, 1, 0, SHORT_LOOP),
     refused("to kind 6, 2 before 9", SKIP_LOOP, 2, 1, b"\x04\x07"),
     refused("to kind 6, 3 before 9", SKIP_LOOP, 3, 0, HIGH_SKIP),
@@ -113,6 +123,11 @@ FROM_SKIPS = [
     conversion("to kind 2, no loop", LOOP, NO_LOOP),
     conversion("to kind 2, empty sheet", LOOP, []),
     conversion("to kind 2, empty sheet, the buffer stays", LOOP, [], spare=2),
+    conversion("to kind 2, a loop that counts down", LOOP, EQUAL_DOWN),
+    conversion("kind 2 stays, a loop that counts down", LOOP, PLAIN_DOWN),
+    conversion("to kind 2, loops that count down, both kinds", LOOP, NESTED_DOWN),
+    refused("10: a loop that counts down", LOOP, 10, 0, encode_all(BELOW_DOWN), 40, 8),
+    refused("stride -1,001 of a later record before 10", LOOP, 3, 28, encode_all(BELOW_DOWN) + LONG_STRIDE),
     refused("10: a skip below start", LOOP, 10, 0, encode_all(BELOW), 40, 8),
     refused("10: a skip above start", LOOP, 10, 0, encode_all(ABOVE), 40, 8),
     refused("10: a skip that differs in its second byte", LOOP, 10, 0, encode_all(SECOND_BYTE), 40, 8),

@@ -19,7 +19,7 @@ from conversions import CONVERSIONS, CONVERTERS, LONGEST, Conversion, with_equal
 from converters import convert_called, stored
 from generate import SIZES, cases
 from known import MARKED
-from known_reasons import SKIPS
+from known_reasons import DOWN, SKIPS
 from pumdalin.answers import Refusal
 from pumdalin.records import LOOP, SKIP_LOOP, encode_all, two_bytes_each
 from sheet import read
@@ -50,7 +50,7 @@ def kept_conversions() -> list[Conversion]:
     made = list(CONVERSIONS)
     for line in readings.parse_conversions():
         made.append(Conversion(line.tells, line.kind, line.sheet, bytes(line.room), bytes(8)))
-    sheets = [known.sheet() for known in MARKED] + [known.sheet() for known in SKIPS]
+    sheets = [known.sheet() for known in MARKED + SKIPS + DOWN]
     for sheet in sheets + [encode_all(records) for records in LONGEST]:
         for kind in CONVERTERS:
             made += exact(kind, sheet)

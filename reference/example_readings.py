@@ -7,11 +7,17 @@ import antt
 import readings
 import trips
 from antt import Equation, octets, term
-from calls import reports
+from calls import answer, reports
+from counting_down import TELLING_DOWN
 from known import MARKED
+from nest import counts_down
 from pumdalin.answers import Answer, Figures, Refusal
-from pumdalin.inputs import Parameters
+from pumdalin.inputs import Parameters, from_input
+from pumdalin.records import Loop
 from sheet import read
+
+# Of document 02's calls on loops that count down, those with more trips are stored cases only.
+MOST_TRIPS_DOWN = 150
 
 
 def answer_equations(
@@ -47,6 +53,26 @@ def equations_of(lines: list[readings.Reading]) -> list[Equation]:
     return equations
 
 
+def down_equations() -> list[Equation]:
+    """The sheets of loops that count down: those worked out by hand, and those of document 02's calls."""
+    requested = [line for line in requested_down() if feasible(line, MOST_TRIPS_DOWN)]
+    return equations_of(TELLING_DOWN + requested)
+
+
+def requested_down() -> list[readings.Reading]:
+    """The inputs of `bound` with a loop that counts down, where C-17 asks for its text."""
+    found: list[readings.Reading] = []
+    for printed in readings.parse_requests():
+        sheet, parameters, budget = from_input(printed.data)
+        records = read(sheet)
+        if printed.request != "C-17" or isinstance(records, Refusal):
+            continue
+        if any(isinstance(record, Loop) and counts_down(record) for record in records):
+            result = answer(sheet, parameters, budget)
+            found.append(readings.Reading(parameters, budget, sheet, result, "", [], printed.tells))
+    return found
+
+
 def readings_file(path: str, trip_limit: int, group: int) -> str:
     """The sheets that tell readings apart, save those with too many trips to compute."""
     lines = readings.parse_file(path)
@@ -57,6 +83,7 @@ def readings_file(path: str, trip_limit: int, group: int) -> str:
     comments = ["Sheets that tell readings of the papers apart, from raw bytes."]
     comments += [f"Left out, over {trip_limit} trips: {tells}" for tells in skipped]
     theorems = antt.grouped("readings", equations_of(kept), group)
+    theorems += antt.grouped("counting-down", down_equations(), group)
     return antt.file_text("Readings.antt", comments, theorems)
 
 

@@ -78,6 +78,12 @@ EXAMPLES = [
     Example("skip in an arm", [
         span(0, 1), Choice(), loop(form(0), form(-1, i=1), start=9, skip=2), UNIT, END, NextArm(), Work(4, 4), END, END,
     ]),
+    Example("closed, both directions: i 2 down to 0, j i to 3", [
+        span(2, 0, -1, start=1, step=1), loop(form(i=1), form(3), start=2), Work(1, 2), END, END,
+    ]),
+    Example("walked, both directions: i 0 to 2, j i down to 0 by 2", [
+        span(0, 2), loop(form(i=1), form(), -2, start=1, step=3), Work(1, 2), END, END,
+    ]),
     Example("parameters, a negative factor, strides", [
         loop(form(p=(1,)), form(p=(1, 0, 2)), stride=3), Work(1, 2),
         loop(form(1, i=-1), form(20, i=-1, p=(0, -1)), stride=2, start=2), Work(5, 6), END, END,

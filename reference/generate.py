@@ -11,11 +11,13 @@ from random import Random
 from typing import NamedTuple, Optional
 
 from calls import answer, reports
+from directions import turned_at_times
 from hostile import hostile_sheet
 from pumdalin.answers import Figures
 from pumdalin.inputs import Parameters
 from pumdalin.records import (
-    COST_LIMIT, MOST_OPEN, MOST_RECORDS, Choice, End, Form, Loop, NextArm, Record, Work, encode_all,
+    COST_LIMIT, MOST_OPEN, MOST_RECORDS, STRIDE_LIMIT, Choice, End, Form, Loop, NextArm, Record, Work, encode_all,
+    offsets,
 )
 
 
@@ -32,6 +34,13 @@ SIZES = {
     "middle": Size(24, 4, 8),
     "large": Size(MOST_RECORDS, 4, 40),
 }
+
+
+# Numbers that a damage puts anywhere, and those that it puts into a stride.
+EDGES = [0, 1, 1000, 1001, 4095, 4096, 32767, -32768, -1]
+STRIDE_EDGES = [0, 1, -1, STRIDE_LIMIT, STRIDE_LIMIT + 1, -STRIDE_LIMIT, -STRIDE_LIMIT - 1, 32767, -32768]
+# Where the stride stands in a loop's record.
+STRIDE_AT = 5
 
 
 class Case(NamedTuple):
@@ -85,7 +94,7 @@ def loop(random: Random, size: Size, enclosing: int) -> Loop:
     stride = random.choice([1, 1, 1, 2, 2, 3, 4])
     lower, upper = bounds(random, size, enclosing, stride)
     start = cost(random)
-    return Loop(start, cost(random), stride, lower, upper, skip(random, start))
+    return turned_at_times(random, Loop(start, cost(random), stride, lower, upper, skip(random, start)))
 
 
 def body(random: Random, size: Size, loops: int, opened: int, room: int) -> list[Record]:
@@ -140,10 +149,12 @@ def budget(random: Random) -> int:
 
 def damaged_sheet(random: Random, size: Size) -> bytes:
     """A valid sheet with one to three damages."""
-    sheet = bytearray(encode_all(valid_records(random, size)) or b"\x03")
+    records = valid_records(random, size)
+    strides = [place + STRIDE_AT for place, record in zip(offsets(records), records) if isinstance(record, Loop)]
+    sheet = bytearray(encode_all(records) or b"\x03")
     for _ in range(random.randint(1, 3)):
         at = random.randrange(len(sheet)) if sheet else 0
-        damage = random.choice(["cut", "flip", "byte", "edge", "drop", "insert", "tail"])
+        damage = random.choice(["cut", "flip", "byte", "edge", "stride", "drop", "insert", "tail"])
         if damage == "cut":
             del sheet[at:]
         elif damage == "flip" and sheet:
@@ -151,8 +162,10 @@ def damaged_sheet(random: Random, size: Size) -> bytes:
         elif damage == "byte" and sheet:
             sheet[at] = random.choice([0, 1, 2, 3, 4, 5, 6, 7, 127, 128, 255])
         elif damage == "edge":
-            edge = random.choice([0, 1, 1000, 1001, 4095, 4096, 32767, 32768, 65535])
-            sheet[at:at + 2] = edge.to_bytes(2, "little")
+            sheet[at:at + 2] = random.choice(EDGES).to_bytes(2, "little", signed=True)
+        elif damage == "stride" and strides:
+            at = random.choice(strides)
+            sheet[at:at + 2] = random.choice(STRIDE_EDGES).to_bytes(2, "little", signed=True)
         elif damage == "drop":
             del sheet[at:at + 1]
         elif damage == "insert":

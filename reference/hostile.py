@@ -2,8 +2,9 @@
 
 from random import Random
 
+from directions import turned_at_times
 from pumdalin.records import (
-    COST_LIMIT, MOST_LOOPS_DEEP, MOST_OPEN, STRIDE_MOST, Choice, End, Form, Loop, NextArm, Record,
+    COST_LIMIT, MOST_LOOPS_DEEP, MOST_OPEN, STRIDE_LIMIT, Choice, End, Form, Loop, NextArm, Record,
     Work, encode,
 )
 
@@ -18,7 +19,7 @@ def extreme_form(random: Random, enclosing: int) -> Form:
 
 def extreme_loop(random: Random, enclosing: int) -> Loop:
     """Mostly loops of up to 2,048 trips; some have bounds far beyond."""
-    stride = random.choice([1, 2, 7, STRIDE_MOST])
+    stride = random.choice([1, 2, 7, STRIDE_LIMIT])
     start, step = [random.choice([0, COST_LIMIT]) for _ in range(2)]
     skip = random.choice([None, None, 0, COST_LIMIT])
     lower = extreme_form(random, enclosing)
@@ -69,5 +70,5 @@ def hostile_record(random: Random, kind: str, loops: int) -> Record:
     if kind == "work":
         return Work(random.choice([0, COST_LIMIT]), COST_LIMIT)
     if kind == "loop":
-        return extreme_loop(random, loops)
+        return turned_at_times(random, extreme_loop(random, loops))
     return {"end": End(), "choice": Choice(), "next": NextArm()}[kind]

@@ -1,4 +1,4 @@
-"""Sheets with the reason of each of their loops, worked out by hand from document 02, C-11 and C-12.
+"""Sheets with the reason of each of their loops, worked out by hand from document 02, C-11, C-12 and C-17.
 
 A loop takes 25 bytes, one of kind 6 takes 27, a work 5, any other record 1.
 """
@@ -229,4 +229,85 @@ SKIPS = [
     ]),
 ]
 
-KNOWN_REASONS = CHOICES + FEW_TRIPS + UNEVEN + SEVERAL + FAR + SKIPS
+FOUR_DOWN = span(3, 0, -1)
+# Loops in a loop i whose D is i or i - 1, each from that down to 0.
+FINE_DOWN = loop(form(i=1), form(), -1)
+LESS_DOWN = loop(form(-1, i=1), form(), -1, start=3, skip=1)
+ODD_DOWN = loop(form(i=1), form(), -2)
+
+DOWN = [
+    KnownReasons("both count down", [FOUR_DOWN, FINE_DOWN, END, END], [None, None]),
+    KnownReasons("too few trips where i ends", [
+        span(7, 1, -1), loop(form(3), form(i=1)), UNIT, END, END,
+    ], [TooFewTrips(25), None]),
+    KnownReasons("too few trips where i starts", [
+        span(9, 3, -1), loop(form(7), form(i=1), -1), UNIT, END, END,
+    ], [TooFewTrips(25), None]),
+    KnownReasons("D is minus the stride's size", [FOUR, span(0, 3, -3), END, END], [None, None]),
+    KnownReasons("D is one less than minus the stride's size", [
+        FOUR_DOWN, span(0, 4, -3), END, END,
+    ], [TooFewTrips(25), None]),
+    KnownReasons("the smallest D is minus the stride's size", [
+        span(8, 0, -2), loop(form(-2, i=1), form(), -2), END, END,
+    ], [None, None]),
+    KnownReasons("the smallest D is one less than minus the stride's size", [
+        span(8, 0, -2), loop(form(-3, i=1), form(), -2), END, END,
+    ], [TooFewTrips(25), None]),
+    KnownReasons("too few trips and uneven, counting down", [
+        span(0, 9), loop(form(6), form(i=1), -2), END, END,
+    ], [TooFewTrips(25), None]),
+    KnownReasons("uneven by -2", [FOUR, ODD_DOWN, END, END], [UnevenIn(25, 0), None]),
+    KnownReasons("uneven by -2 in one that counts down", [FOUR_DOWN, ODD_DOWN, END, END], [UnevenIn(25, 0), None]),
+    KnownReasons("even by -2 by the outer stride", [span(6, 0, -2), ODD_DOWN, END, END], [None, None]),
+    KnownReasons("uneven in j alone, which counts down", [
+        FOUR, FOUR_DOWN, loop(form(j=1), form(), -2), END, END, END,
+    ], [UnevenIn(50, 25), UnevenIn(50, 25), None]),
+    KnownReasons("uneven in i by j's start", [
+        FOUR_DOWN, loop(form(i=1), form(-3, i=1), -1), loop(form(6, j=1), form(), -2), END, END, END,
+    ], [UnevenIn(50, 0), UnevenIn(50, 25), None]),
+    KnownReasons("even in i by j's start", [
+        FOUR_DOWN, loop(form(i=1), form(-3, i=1), -1), loop(form(7, i=-1, j=1), form(), -3), END, END, END,
+    ], [UnevenIn(50, 25), UnevenIn(50, 25), None]),
+    KnownReasons("even in i by j's start, which falls as i grows", [
+        FOUR, loop(form(i=-1), form(-3, i=-1), -1), loop(form(7, i=1, j=1), form(), -3), END, END, END,
+    ], [UnevenIn(50, 25), UnevenIn(50, 25), None]),
+    KnownReasons("even in i by j's start, and not by its end", [
+        FOUR, loop(form(5, i=2), form(i=1), -1), loop(form(), form(j=1), 2), END, END, END,
+    ], [UnevenIn(50, 25), UnevenIn(50, 25), None]),
+    KnownReasons("l uneven in i and k", [
+        FOUR_DOWN, FOUR, FOUR_DOWN, loop(form(i=1, k=1), form(), -2), END, END, END, END,
+    ], [UnevenIn(75, 0), UnevenIn(75, 50), UnevenIn(75, 50), None]),
+    KnownReasons("j goes down to its end's smallest value", [
+        FOUR, loop(form(4), form(i=1), -1), loop(form(j=1), form(2), -1), END, END, END,
+    ], [TooFewTrips(50), TooFewTrips(50), None]),
+    KnownReasons("j starts at its start's largest value", [
+        FOUR, FINE_DOWN, loop(form(j=1), form(1)), END, END, END,
+    ], [TooFewTrips(50), TooFewTrips(50), None]),
+    KnownReasons("j does not start above its start's largest value", [
+        FOUR, FINE_DOWN, loop(form(j=1), form(2)), END, END, END,
+    ], [None, None, None]),
+    KnownReasons("without a trip i lies at its start", [
+        span(2, 7, -1), loop(form(), form(2, i=-1)), END, END,
+    ], [None, None]),
+    KnownReasons("a choice after a loop with too few trips, counting down", [
+        span(9, 0, -1), FEW, UNIT, END, CHOICE, FINE_DOWN, END, END, END,
+    ], [HoldsLoop(56), None, None]),
+    KnownReasons("an uneven loop before one with too few trips, counting down", [
+        span(9, 0, -1), ODD_DOWN, END, FEW, END, END,
+    ], [UnevenIn(25, 0), None, None]),
+    KnownReasons("a skip below start, counting down", [FOUR, LESS_DOWN, END, END], [TooFewTrips(25), None]),
+    KnownReasons("a skip equal to start, counting down", [
+        FOUR, loop(form(-1, i=1), form(), -1, start=3, skip=3), END, END,
+    ], [None, None]),
+    KnownReasons("a trip at least, whatever the skip, counting down", [
+        FOUR_DOWN, loop(form(i=1), form(), -1, start=3, skip=1), END, END,
+    ], [None, None]),
+    KnownReasons("D is -1, though not below minus the stride's size", [
+        FOUR_DOWN, span(0, 1, -1000, start=1, skip=0), END, END,
+    ], [TooFewTrips(25), None]),
+    KnownReasons("a parameter of 2 that leaves one trip too few", [
+        FOUR_DOWN, loop(form(), form(p=(1,)), -1), END, END,
+    ], [TooFewTrips(25), None], (2, 0, 0, 0)),
+]
+
+KNOWN_REASONS = CHOICES + FEW_TRIPS + UNEVEN + SEVERAL + FAR + SKIPS + DOWN

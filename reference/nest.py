@@ -15,12 +15,29 @@ class Range(NamedTuple):
     largest: int
 
 
-def subtract(upper: Form, lower: Form) -> Form:
-    """D as one form: upper minus lower."""
+def counts_down(loop: Loop) -> bool:
+    """A loop with a negative stride starts at its lower form all the same (document 02, C-17)."""
+    return loop.stride < 0
+
+
+def stride_size(loop: Loop) -> int:
+    """The stride without its sign: what trips, ceilings and both tests for closing take."""
+    return abs(loop.stride)
+
+
+def difference_of(loop: Loop) -> Form:
+    """D as one form: upper minus lower, of a loop that counts down lower minus upper."""
+    if counts_down(loop):
+        return subtract(loop.lower, loop.upper)
+    return subtract(loop.upper, loop.lower)
+
+
+def subtract(first: Form, second: Form) -> Form:
+    """The first form minus the second, as one form."""
     return Form(
-        upper.constant - lower.constant,
-        tuple(u - l for u, l in zip(upper.indexes, lower.indexes)),
-        tuple(u - l for u, l in zip(upper.parameters, lower.parameters)),
+        first.constant - second.constant,
+        tuple(a - b for a, b in zip(first.indexes, second.indexes)),
+        tuple(a - b for a, b in zip(first.parameters, second.parameters)),
     )
 
 
@@ -44,15 +61,21 @@ def form_range(form: Form, index_ranges: list[Range], parameters: Parameters) ->
 
 
 def index_range(loop: Loop, index_ranges: list[Range], parameters: Parameters) -> Range:
-    """From the lower form's smallest value, lo, to the larger of lo and the upper's largest."""
-    lo = form_range(loop.lower, index_ranges, parameters).smallest
-    hi = form_range(loop.upper, index_ranges, parameters).largest
-    return Range(lo, max(lo, hi))
+    """From the lower form's smallest value to the larger of it and the upper's largest.
+
+    Of a loop that counts down, from the smaller of the upper form's smallest value and the
+    lower's largest, to the latter.
+    """
+    lower = form_range(loop.lower, index_ranges, parameters)
+    upper = form_range(loop.upper, index_ranges, parameters)
+    if counts_down(loop):
+        return Range(min(upper.smallest, lower.largest), lower.largest)
+    return Range(lower.smallest, max(lower.smallest, upper.largest))
 
 
-def trips_for(difference: int, stride: int) -> int:
-    """max(0, floor(D / stride) + 1); Python's // rounds down."""
-    return max(0, difference // stride + 1)
+def trips_for(difference: int, loop: Loop) -> int:
+    """max(0, floor(D / stride) + 1), by the stride's size; Python's // rounds down."""
+    return max(0, difference // stride_size(loop) + 1)
 
 
 def pushed(form: Form, pushes: list[int]) -> int:
@@ -104,7 +127,7 @@ def facts(records: list[Record], parameters: Parameters) -> dict[int, LoopFacts]
         difference = differences[node.position]
         found[node.position] = LoopFacts(
             difference,
-            trips_for(difference.largest, node.loop.stride),
+            trips_for(difference.largest, node.loop),
             reason_of(path, differences, places),
             height(node),
         )
@@ -127,8 +150,7 @@ def difference_ranges(
     """The range of D of every loop of a body, by position."""
     found: dict[int, Range] = {}
     for node in loops_directly_in(body):
-        difference = subtract(node.loop.upper, node.loop.lower)
-        found[node.position] = form_range(difference, index_ranges, parameters)
+        found[node.position] = form_range(difference_of(node.loop), index_ranges, parameters)
         own = index_range(node.loop, index_ranges, parameters)
         found.update(difference_ranges(node.body, index_ranges + [own], parameters))
     return found
@@ -150,7 +172,7 @@ def reason_of(
         if differences[inner.position].smallest < asked_difference(inner.loop):
             return TooFewTrips(places[inner.position])
         for mover in range(len(path) - 1, len(around)):
-            if push(around, mover, inner.loop) % inner.loop.stride != 0:
+            if push(around, mover, inner.loop) % stride_size(inner.loop) != 0:
                 return UnevenIn(places[inner.position], places[around[mover].position])
     return None
 
@@ -160,16 +182,19 @@ def asked_difference(inner: Loop) -> int:
 
     Where skip and start differ, the loop has to make a trip, and so pay start, each time it is met.
     """
-    return -inner.stride if skip_of(inner) == inner.start else 0
+    return -stride_size(inner) if skip_of(inner) == inner.start else 0
 
 
 def push(around: list[LoopNode], mover: int, inner: Loop) -> int:
-    """What the next trip of around[mover] adds to D of a loop inside, counters of all other loops held."""
+    """What the next trip of around[mover] adds to D of a loop inside, counters of all other loops held.
+
+    The trip moves its own index by its stride, sign kept.
+    """
     pushes: list[int] = []
     for depth, node in enumerate(around):
         own = node.loop.stride if depth == mover else 0
         pushes.append(own + pushed(node.loop.lower, pushes))
-    return pushed(subtract(inner.upper, inner.lower), pushes)
+    return pushed(difference_of(inner), pushes)
 
 
 def ceiling_refusal(records: list[Record], parameters: Parameters) -> Optional[Refusal]:

@@ -5,8 +5,8 @@ from typing import NamedTuple, Optional, Union
 from pumdalin.answers import Refusal
 from pumdalin.records import (
     BODY_LENGTH, CHOICE, COST_LIMIT, END, LOOPS, MOST_LOOPS_DEEP, MOST_OPEN, MOST_RECORDS,
-    NEXT_ARM, OPENS, SKIP_LOOP, STRIDE_LEAST, STRIDE_MOST, WORK, Form, Loop, Record, Work, decode,
-    encode_all, kind_of, open_after, record_length,
+    NEXT_ARM, OPENS, SKIP_LOOP, STRIDE_LIMIT, WORK, Form, Loop, Record, Work, decode, encode_all,
+    kind_of, open_after, record_length,
 )
 
 
@@ -44,11 +44,16 @@ def in_range(record: Record, open_kinds: list[int]) -> bool:
             record.start <= COST_LIMIT
             and record.step <= COST_LIMIT
             and skip_of(record) <= COST_LIMIT
-            and STRIDE_LEAST <= record.stride <= STRIDE_MOST
+            and stride_in_range(record.stride)
             and only_enclosing(record.lower, enclosing)
             and only_enclosing(record.upper, enclosing)
         )
     return True
+
+
+def stride_in_range(stride: int) -> bool:
+    """-1,000 to 1,000 without 0 (document 02, C-17)."""
+    return stride != 0 and -STRIDE_LIMIT <= stride <= STRIDE_LIMIT
 
 
 def skip_of(loop: Loop) -> int:

@@ -13,18 +13,19 @@ one case after the other, numbers low byte first:
     2  the count that the writer is given
     2  length of the writer's buffer
     then the sheet, then the records, 31 bytes each: kind, least, most, start,
-    step, stride, lower form, upper form, skip.
+    step, stride (signed), lower form, upper form, skip.
 """
 
 from random import Random
 
 import known
-from conversions import ALL_KINDS, LONGEST
-from generate import SIZES, damaged_sheet, valid_records
+from conversions import ALL_KINDS, LONGEST, NESTED_DOWN
+from generate import SIZES, STRIDE_EDGES, damaged_sheet, valid_records
 from hostile import hostile_sheet
 from kept import kept_cases
+from known import END, span
 from pumdalin.answers import Refusal
-from pumdalin.records import BODY_LENGTH, MOST_RECORDS, SKIP_LOOP, encode_all, encode_form, two_bytes_each
+from pumdalin.records import BODY_LENGTH, MOST_RECORDS, SKIP_LOOP, Choice, encode_all, encode_form, two_bytes_each
 from sheet import RawRecord, raw, read, write
 from stored import answered, main
 from writer_cases import WRITER_CASES, WriterCase
@@ -35,6 +36,8 @@ VALID_SHEETS = 45
 DAMAGED_SHEETS = 150
 HOSTILE_SHEETS = 50
 RANDOM_WRITES = 180
+# What a field is changed into, where it is not a cost.
+OTHER_VALUES = {"kind": [0, 1, 2, 6, 7, 255], "stride": STRIDE_EDGES}
 READER = 1
 WRITER = 2
 # No sheet has more bytes.
@@ -42,9 +45,10 @@ LONGEST_SHEET = MOST_RECORDS * (1 + BODY_LENGTH[SKIP_LOOP])
 
 
 def entry_bytes(entry: RawRecord) -> bytes:
-    costs = two_bytes_each(entry.least, entry.most, entry.start, entry.step, entry.stride)
+    costs = two_bytes_each(entry.least, entry.most, entry.start, entry.step)
+    stride = entry.stride.to_bytes(2, "little", signed=True)
     forms = encode_form(entry.lower) + encode_form(entry.upper)
-    return bytes([entry.kind]) + costs + forms + two_bytes_each(entry.skip)
+    return bytes([entry.kind]) + costs + stride + forms + two_bytes_each(entry.skip)
 
 
 def reader_case(sheet: bytes) -> bytes:
@@ -69,14 +73,22 @@ def writer_case(case: WriterCase) -> bytes:
 
 
 def truncations() -> list[bytes]:
-    """Every beginning of each sheet with known figures, and of one with loops of both kinds."""
-    sheets = [case.sheet() for case in known.MARKED] + [encode_all(ALL_KINDS)]
+    """Every beginning of each sheet with known figures, and of some with loops of both kinds and directions."""
+    sheets = [case.sheet() for case in known.MARKED] + [encode_all(ALL_KINDS), encode_all(NESTED_DOWN)]
     return [sheet[:length] for sheet in sheets for length in range(len(sheet) + 1)]
 
 
 def kinds() -> list[bytes]:
     """Every byte as a kind, alone and with a long body."""
     return [bytes([kind]) + bytes(length) for kind in range(256) for length in (0, 26)]
+
+
+def strides() -> list[bytes]:
+    """Strides at the edges of their range and of one byte, in loops of both kinds."""
+    found: list[bytes] = []
+    for stride in [*STRIDE_EDGES, 2, -2, 999, -999, 255, 256, -255, -256, -257, 1002, -1002]:
+        found += [encode_all([span(9, 0, stride), END]), encode_all([Choice(), span(9, 0, stride, skip=1), END, END])]
+    return found
 
 
 def random_sheets(random: Random) -> list[bytes]:
@@ -97,7 +109,7 @@ def random_writes(random: Random) -> list[WriterCase]:
         if entries and random.random() < 0.4:
             at = random.randrange(len(entries))
             field = random.choice(["kind", "least", "most", "start", "step", "stride", "skip"])
-            value = random.choice([0, 1, 2, 6, 7, 255] if field == "kind" else [0, 1, 1001, 4095, 4096])
+            value = random.choice(OTHER_VALUES.get(field, [0, 1, 1001, 4095, 4096]))
             entries[at] = entries[at]._replace(**{field: value})
         made.append(WriterCase("random", entries, len(entries), bytes(length)))
     return made
@@ -113,7 +125,7 @@ def encode_entries(entries: list[RawRecord]) -> bytes:
 def all_cases() -> bytes:
     random = Random(SEED)
     sheets = [case.sheet for case in kept_cases()] + [encode_all(records) for records in LONGEST]
-    sheets += truncations() + kinds() + random_sheets(random)
+    sheets += truncations() + kinds() + strides() + random_sheets(random)
     writes = WRITER_CASES + random_writes(random)
     return b"".join(map(reader_case, sheets)) + b"".join(map(writer_case, writes))
 

@@ -17,6 +17,7 @@ from typing import Iterator
 
 from generate import SIZES, Case, parameters, valid_records
 from kept import kept_cases
+from nest import counts_down
 from pumdalin.answers import Refusal
 from pumdalin.inputs import encode_parameters
 from pumdalin.records import encode_all, two_bytes_each
@@ -34,7 +35,10 @@ BUDGET = 1_000_000
 MOST_STAGES = 150
 # at least so many random sheets of each sort
 EACH_SORT = 130
-SORTS = ("walked", "closed", "choice with a loop", "four deep", "no trip", "skip inside")
+SORTS = (
+    "walked", "closed", "choice with a loop", "four deep", "no trip", "skip inside",
+    "walked, counts down", "closed, counts down", "both directions",
+)
 
 
 def states_of(nest: Nest) -> list[State]:
@@ -77,8 +81,17 @@ def sorts_of(nest: Nest) -> set[str]:
         any(height(loop) == 3 for loop in outermost),
         any(trips_of(node.loop, [], nest.parameters) == 0 for node in outermost),
         any(may_skip(node, nest) for outer in outermost for node in loops_in(outer.body)),
+        any(not nest.known[node.position].closed for node in loops_in(body) if counts_down(node.loop)),
+        any(nest.known[node.position].closed and height(node) > 0 for node in loops_in(body) if counts_down(node.loop)),
+        any(both_directions(outer, nest) for outer in outermost),
     )
     return {sort for sort, holds in zip(SORTS, tests) if holds}
+
+
+def both_directions(outer: LoopNode, nest: Nest) -> bool:
+    """Whether it makes trips, and a loop inside that may make some counts the other way."""
+    inside = [node for node in loops_in(outer.body) if counts_down(node.loop) != counts_down(outer.loop)]
+    return nest.known[outer.position].ceiling > 1 and any(nest.known[node.position].ceiling > 1 for node in inside)
 
 
 def may_skip(node: LoopNode, nest: Nest) -> bool:

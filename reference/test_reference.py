@@ -18,6 +18,7 @@ import known_reasons
 import stages
 import trips
 from calls import Called, Lent, answer, c_call, program_text, reports, text_call
+from counting_down import COUNTING_DOWN
 from example_calls import calls_file
 from example_readings import known_file, readings_file, telling_file
 from example_states import states_file
@@ -27,7 +28,7 @@ from known_reasons import KnownReasons
 from nest import ceiling_refusal, loop_reports
 from pumdalin.answers import Figures, Refusal
 from pumdalin.records import COST_LIMIT, END, LOOP, SKIP_LOOP, WORK, Choice, End, Form, NextArm, encode, encode_all
-from readings import READINGS, TELLING, parse_file, parse_requests
+from readings import READINGS, TELLING, Reading, parse_file, parse_requests
 from reasons import OFFSET_LIMIT, HoldsLoop, TooFewTrips, UnevenIn, read_reason
 from sheet import BLANK, Part, RawRecord, SheetEnd, Written, raw, read, record_at, write
 from walked import walked_case
@@ -76,18 +77,21 @@ class SheetFiles(unittest.TestCase):
     """The files of sheets with their answers, line by line."""
 
     def test_readings(self) -> None:
-        self.check(GIVEN)
+        self.check(parse_file(GIVEN))
 
     def test_telling(self) -> None:
-        self.check(TELLING)
+        self.check(parse_file(TELLING))
+
+    def test_counting_down(self) -> None:
+        self.check(COUNTING_DOWN)
 
     def test_requests(self) -> None:
         for printed in parse_requests():
             with self.subTest(printed.tells or printed.data.hex()):
                 self.assertEqual(program_text(printed.data), printed.text)
 
-    def check(self, path: str) -> None:
-        for reading in parse_file(path):
+    def check(self, lines: list[Reading]) -> None:
+        for reading in lines:
             with self.subTest(reading.tells):
                 result = answer(reading.sheet, reading.parameters, reading.budget)
                 self.assertEqual(result, reading.answer)
@@ -124,6 +128,9 @@ class Reasons(unittest.TestCase):
 
     def test_skips(self) -> None:
         self.check(known_reasons.SKIPS)
+
+    def test_counting_down(self) -> None:
+        self.check(known_reasons.DOWN)
 
     def test_one_line_after_the_loop(self) -> None:
         """All tests fail in i, two in j; each has one line, and a closed loop has none."""

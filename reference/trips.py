@@ -2,7 +2,7 @@
 
 from typing import NamedTuple
 
-from nest import LoopFacts, facts, subtract, trips_for, value
+from nest import LoopFacts, difference_of, facts, trips_for, value
 from pumdalin.inputs import Parameters
 from pumdalin.records import Loop, Record, Work
 from sheet import skip_of
@@ -49,8 +49,7 @@ class Meter:
 
 def trips_of(loop: Loop, indexes: list[int], parameters: Parameters) -> int:
     """The number of trips of a loop at the indexes around it."""
-    difference = subtract(loop.upper, loop.lower)
-    return trips_for(value(difference, indexes, parameters), loop.stride)
+    return trips_for(value(difference_of(loop), indexes, parameters), loop)
 
 
 def entry_cost(loop: Loop, trip_count: int) -> int:
@@ -59,7 +58,7 @@ def entry_cost(loop: Loop, trip_count: int) -> int:
 
 
 def index_of(loop: Loop, counter: int, indexes: list[int], parameters: Parameters) -> int:
-    """The loop's index in the trip with the given counter; the first is 0."""
+    """The loop's index in the trip with the given counter, the first 0: each trip moves it by the stride, sign kept."""
     return value(loop.lower, indexes, parameters) + counter * loop.stride
 
 

@@ -5,6 +5,7 @@ from random import Random
 from typing import NamedTuple
 
 import generate
+from directions import turned_at_times
 from generate import Case, cost, factors, skip, work
 from nest import Range, asked_difference, form_range, index_range
 from pumdalin.inputs import Parameters
@@ -58,7 +59,7 @@ def nested_loop(random: Random, aim: Aim, ranges: list[Range], parameters: Param
     loop = Loop(start, cost(random), stride, lower, lower, skip(random, start))
     width = smallest_difference(random, aim, len(ranges), loop) - spread
     upper = tuple(l + c for l, c in zip(lower.indexes, change))
-    return replace(loop, upper=Form(lower.constant + width, upper, lower.parameters))
+    return turned_at_times(random, replace(loop, upper=Form(lower.constant + width, upper, lower.parameters)))
 
 
 def nest(random: Random, aim: Aim, ranges: list[Range], parameters: Parameters) -> list[Record]:

@@ -3,7 +3,7 @@
 from typing import NamedTuple
 
 from known import form, loop, span
-from pumdalin.records import SKIP_LOOP, Choice, End, Form, NextArm, Work
+from pumdalin.records import LOOPS, SKIP_LOOP, Choice, End, Form, NextArm, Work
 from sheet import RawRecord, raw
 
 WORK_ENTRY = raw(Work(1, 2))
@@ -15,6 +15,9 @@ NEXT_ENTRY = raw(NextArm())
 FULL_FORMS = form(-2, p=(1, -1, 127, -128)), form(300, p=(-3, 4, 0, 5))
 FULL_LOOP = raw(loop(*FULL_FORMS, 1000, 4095, 258))
 FULL_SKIP_LOOP = raw(loop(*FULL_FORMS, 1000, 4095, 258, 769))
+# The bytes of -769 differ.
+FULL_LOOP_DOWN = raw(loop(*FULL_FORMS, -769, 4095, 258))
+FULL_SKIP_LOOP_DOWN = raw(loop(*FULL_FORMS, -769, 4095, 258, 513))
 
 
 class WriterCase(NamedTuple):
@@ -56,6 +59,8 @@ BUFFERS = [
          65),
     loop_case("a loop's fields in order, signed ones", FULL_LOOP),
     loop_case("a loop's fields in order, skip last", FULL_SKIP_LOOP),
+    loop_case("a loop's fields in order, a negative stride", FULL_LOOP_DOWN),
+    loop_case("a loop's fields in order, a negative stride and skip last", FULL_SKIP_LOOP_DOWN),
     case("a loop with a skip, buffer one shorter", [SKIP_ENTRY, END_ENTRY], 27),
 ]
 
@@ -80,6 +85,11 @@ FIELDS = [
     loop_case("stride 0", LOOP_ENTRY._replace(stride=0)),
     loop_case("stride 1,000", LOOP_ENTRY._replace(stride=1000)),
     loop_case("stride 1,001", LOOP_ENTRY._replace(stride=1001)),
+    loop_case("stride 32,767", LOOP_ENTRY._replace(stride=32767)),
+    loop_case("stride -1", LOOP_ENTRY._replace(stride=-1)),
+    loop_case("stride -1,000", LOOP_ENTRY._replace(stride=-1000)),
+    loop_case("stride -1,001", LOOP_ENTRY._replace(stride=-1001)),
+    loop_case("stride -32,768", LOOP_ENTRY._replace(stride=-32768)),
     loop_case("skip 4,095", SKIP_ENTRY._replace(skip=4095)),
     loop_case("skip 4,096", SKIP_ENTRY._replace(skip=4096)),
     loop_case("skip 65,535", SKIP_ENTRY._replace(skip=65535)),
@@ -88,6 +98,8 @@ FIELDS = [
     loop_case("kind 2 with a skip equal to start", LOOP_ENTRY._replace(start=3, skip=3)),
     loop_case("start 4,096 of kind 6", SKIP_ENTRY._replace(start=4096)),
     loop_case("stride 0 of kind 6", SKIP_ENTRY._replace(stride=0)),
+    loop_case("stride -1,000 of kind 6", SKIP_ENTRY._replace(stride=-1000)),
+    loop_case("stride -1,001 of kind 6", SKIP_ENTRY._replace(stride=-1001)),
     loop_case("lower form's own depth of kind 6", SKIP_ENTRY._replace(lower=form(i=1))),
     loop_case("lower form's own depth", LOOP_ENTRY._replace(lower=form(i=1))),
     loop_case("upper form's depth 3", LOOP_ENTRY._replace(upper=form(k=-1))),
@@ -115,6 +127,8 @@ def foreign_cases() -> list[WriterCase]:
             if field not in OWN.get(entry.kind, set()):
                 changed = entry._replace(**{field: value})
                 found.append(case(f"{name} with a {field}", [CHOICE_ENTRY, changed]))
+        if entry.kind not in LOOPS:
+            found.append(case(f"{name} with a stride of -1", [CHOICE_ENTRY, entry._replace(stride=-1)]))
     corners = [form(i=1), form(j=1), form(k=-1), form(p=(1,)), form(p=(0, 1)), form(p=(0, 0, 1))]
     for corner in corners:
         changed = END_ENTRY._replace(lower=corner)

@@ -42,10 +42,11 @@ pub struct Loop {
     pub depth: usize,
     /// What it costs in place of its start where it makes no trip.
     pub skip: u16,
-    pub stride: i64,
-    /// Upper minus lower bound where all counters are 0.
+    /// The size of its stride: which way it counts is in `base` and `pushes`.
+    pub stride_size: i64,
+    /// From its start to its end, in its direction, where all counters are 0.
     pub base: i64,
-    /// What a trip of each loop around adds to that.
+    /// What a trip of each loop around adds to it.
     pub pushes: [i64; 3],
     /// How many trips of a closed loop are visited at most: height + 1; 0 for a walked one.
     pub limit: u64,
@@ -56,8 +57,8 @@ impl Loop {
         let pushed: i64 = (0..3).map(|m| self.pushes[m] * counters[m]).sum();
         match self.base + pushed {
             d if d < 0 => 0,
-            d if self.stride == 1 => d as u64 + 1,
-            d => d as u64 / self.stride as u64 + 1,
+            d if self.stride_size == 1 => d as u64 + 1,
+            d => d as u64 / self.stride_size as u64 + 1,
         }
     }
 
@@ -97,14 +98,18 @@ impl Around {
         pushes: [[0; DEEPEST]; DEEPEST],
     };
 
-    /// Enters a loop at this depth: the loop, and the smallest and the largest value of its upper minus its lower bound.
+    /// Enters a loop at this depth: the loop, and the smallest and the largest distance from its start to its end.
     fn enter(&mut self, depth: usize, number: usize, stride: i64, lower: &Form, upper: &Form) -> (Loop, i64, i64) {
-        let difference = upper.minus(lower);
+        let (difference, lo, hi) = if stride > 0 {
+            let (lo, _) = lower.range(&self.lo, &self.hi);
+            (upper.minus(lower), lo, lo.max(upper.range(&self.lo, &self.hi).1))
+        } else {
+            let (_, hi) = lower.range(&self.lo, &self.hi);
+            (lower.minus(upper), hi.min(upper.range(&self.lo, &self.hi).0), hi)
+        };
         let (smallest, largest) = difference.range(&self.lo, &self.hi);
         let base = difference.constant + difference.dot(&self.start);
         let mut pushes = [0; 3];
-        let (lo, _) = lower.range(&self.lo, &self.hi);
-        let (_, hi) = upper.range(&self.lo, &self.hi);
         let start = lower.constant + lower.dot(&self.start);
         for m in 0..depth {
             pushes[m] = difference.dot(&self.pushes[m]);
@@ -112,19 +117,19 @@ impl Around {
         }
         self.numbers[depth] = number;
         self.lo[depth] = lo;
-        self.hi[depth] = lo.max(hi);
+        self.hi[depth] = hi;
         self.start[depth] = start;
         self.pushes[depth] = [0; DEEPEST];
         self.pushes[depth][depth] = stride;
-        (Loop { depth, skip: 0, stride, base, pushes, limit: 1 }, smallest, largest)
+        (Loop { depth, skip: 0, stride_size: stride.abs(), base, pushes, limit: 1 }, smallest, largest)
     }
 
     /// What a loop means for the loops around it: it keeps them from being closed, or they visit a trip more for it.
     fn limit_outer(&self, inner: &Loop, start: u16, smallest: i64, choice_depth: usize, loops: &mut [Loop]) {
-        let asked = if inner.skip == start { -inner.stride } else { 0 };
+        let asked = if inner.skip == start { -inner.stride_size } else { 0 };
         let mut even = smallest >= asked;
         for depth in (0..inner.depth).rev() {
-            even = even && (inner.stride == 1 || inner.pushes[depth] % inner.stride == 0);
+            even = even && (inner.stride_size == 1 || inner.pushes[depth] % inner.stride_size == 0);
             let limit = &mut loops[self.numbers[depth]].limit;
             if !even || choice_depth > depth {
                 *limit = 0;
@@ -177,19 +182,19 @@ impl Reader<'_> {
     }
 
     fn enters(&mut self, body: &[u8], costs: [u16; 2], choice_depth: usize, at: usize) -> Result<(), u32> {
-        let stride = number(&body[4..]) as i64;
+        let stride = number(&body[4..]) as i16 as i64;
         let lower = Form::read(&body[6..15], self.parameters);
         let upper = Form::read(&body[15..24], self.parameters);
         let skip = if body.len() > LOOP_LENGTH { number(&body[LOOP_LENGTH..]) } else { costs[0] };
         let enclosed = lower.enclosed_by(self.depth) && upper.enclosed_by(self.depth);
         let cheap = costs[0] <= MOST_CYCLES && costs[1] <= MOST_CYCLES && skip <= MOST_CYCLES;
-        if !cheap || !(1..=LARGEST_STRIDE).contains(&stride) || !enclosed {
+        if !cheap || !(1..=LARGEST_STRIDE).contains(&stride.abs()) || !enclosed {
             return Err(3);
         }
         self.opens(LOOP, choice_depth)?;
         let (mut entered, smallest, largest) = self.around.enter(self.depth, self.plan.loops.len(), stride, &lower, &upper);
         entered.skip = skip;
-        if largest >= MOST_TRIPS * stride && self.over_ceiling.is_none() {
+        if largest >= MOST_TRIPS * entered.stride_size && self.over_ceiling.is_none() {
             self.over_ceiling = Some(at);
         }
         self.around.limit_outer(&entered, costs[0], smallest, choice_depth, &mut self.plan.loops);

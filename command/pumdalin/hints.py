@@ -1,35 +1,50 @@
 """Hints: what in a refused record may be meant, and how a walked loop may become closed. They are the command's own."""
 
-from typing import Optional
+from typing import NamedTuple, Optional
 
 from pumdalin.answers import HOLDS_LOOP, READER_REFUSALS, SKIP_DIFFERS, TOO_FEW_TRIPS, UNEVEN, Reason, Refusal
-from pumdalin.listing_reader import Entry, Listing
-from pumdalin.listing_text import record_text
+from pumdalin.listing_reader import COST, STRIDE_TEXT, Entry, Listing
+from pumdalin.listing_text import bounds_text, form_text, record_text
+from pumdalin.ranges import Range, range_text
 from pumdalin.records import (
-    BODY_LENGTH, COST_LIMIT, END, LOOPS, MOST_LOOPS_DEEP, NEXT_ARM, OPENS, STRIDE_LEAST, STRIDE_MOST,
-    Loop, Record, Work, decode_at, decode_before, kind_of, loops_among, open_after,
+    BODY_LENGTH, COST_LIMIT, END, LOOPS, MOST_LOOPS_DEEP, NEXT_ARM, OPENS,
+    Loop, Record, Work, decode_at, decode_before, kind_of, loops_among, open_after, stride_in_range,
 )
 
 # What to change in the code, and in the listing with it, so that the test which failed holds: choice {0}; loop {0}; loop {0} in
-# loop {1}.
+# loop {1}. What depends on the direction of loop {0} has a name.
 REASON_HINTS = {
     HOLDS_LOOP: "in code and listing alike, put {0} inside each innermost loop that it holds, where an arm without that "
                 "loop is empty; what an arm has beside its loops gets a choice of its own, before or after them",
-    TOO_FEW_TRIPS: "over the ranges of the indexes around it, {0} may start past its end by more than its stride; in code "
-                   "and listing alike, limit the loops around it, or change its bounds, so that upper - lower >= -stride",
-    UNEVEN: "each trip of {1} changes upper - lower of {0} by an amount that the inner stride does not divide; in code "
-            "and listing alike, choose the outer stride, or the factors in the inner bounds, so that it does",
+    TOO_FEW_TRIPS: "over the ranges of the indexes around it, {0}{direction} may start past its end by more than {stride}; in "
+                   "code and listing alike, limit the loops around it, or change its bounds, so that {difference} >= {least}; "
+                   "or, where the code counts {other} from {lower} to {upper}, write {turned} in the listing alone",
+    UNEVEN: "each trip of {1} changes {difference} of {0}{direction} by an amount that the inner stride does not divide; in "
+            "code and listing alike, choose the outer stride, or the factors in the inner bounds, so that it does",
 }
 # Too few trips of a loop whose skip differs from its start: one that may make none has too few.
-NO_TRIP_HINT = ("over the ranges of the indexes around it, {0} may make no trip, and its skip differs from its start; in code "
-                "and listing alike, limit the loops around it, or change its bounds, so that upper - lower >= 0 and it always "
-                "makes a trip; or let it cost its start without a trip too, and then upper - lower >= -stride is enough")
+NO_TRIP_HINT = ("over the ranges of the indexes around it, {0}{direction} may make no trip, and its skip differs from its "
+                "start; in code and listing alike, limit the loops around it, or change its bounds, so that {difference} >= 0 "
+                "and it always makes a trip; or let it cost its start without a trip too, and then {difference} >= {least} is "
+                "enough")
 
 
 def reason_hint(reason: Reason, first: Record, names: list[str]) -> str:
     """A hint for whoever writes the code: of what stands at the reason's offsets, the first record and all names."""
-    asks_a_trip = reason.sort == TOO_FEW_TRIPS and isinstance(first, Loop) and first.skip_differs()
-    return (NO_TRIP_HINT if asks_a_trip else REASON_HINTS[reason.sort]).format(*names)
+    if not isinstance(first, Loop):
+        return REASON_HINTS[reason.sort].format(*names)
+    asks_a_trip = reason.sort == TOO_FEW_TRIPS and first.skip_differs()
+    return (NO_TRIP_HINT if asks_a_trip else REASON_HINTS[reason.sort]).format(*names, **direction_words(first))
+
+
+def direction_words(loop: Loop) -> dict[str, str]:
+    """What is asked of a loop's bounds, in its direction; where it counts down, the size of the stride counts."""
+    bounds = {"lower": form_text(loop.lower), "upper": form_text(loop.upper),
+              "turned": bounds_text(loop.lower, loop.upper, -loop.stride)}
+    if loop.counts_down():
+        return {"direction": ", which counts down from its lower bound,", "stride": "the size of its stride",
+                "difference": "lower - upper", "least": str(loop.stride), "other": "up", **bounds}
+    return {"direction": "", "stride": "its stride", "difference": "upper - lower", "least": "-stride", "other": "down", **bounds}
 
 
 def listing_hint(listing: Listing, refusal: Refusal) -> Optional[str]:
@@ -47,23 +62,34 @@ def listing_hint(listing: Listing, refusal: Refusal) -> Optional[str]:
     return place_hint(kind_of(entry.record), before) if refusal.number == 5 else None
 
 
+class Checked(NamedTuple):
+    """Whether a number is in its range, and the range in words."""
+
+    fits: bool
+    allowed: str
+
+
 def field_hint(entry: Entry) -> Optional[str]:
     """The first number of the record that is out of its range, and its column."""
-    for name, (least, most) in field_ranges(entry.record).items():
-        number = getattr(entry.record, name)
-        if not least <= number <= most:
-            return f"column {entry.columns[name]}: the {name} is {number}, and is to be from {least} to {most}"
+    for name, checked in checked_fields(entry.record).items():
+        if not checked.fits:
+            return f"column {entry.columns[name]}: the {name} is {getattr(entry.record, name)}, and is to be {checked.allowed}"
     return None
 
 
-def field_ranges(record: Record) -> dict[str, tuple[int, int]]:
-    cost = (0, COST_LIMIT)
+def checked_fields(record: Record) -> dict[str, Checked]:
+    """Each number of a record."""
     if isinstance(record, Work):
-        return {"least": cost, "most": (record.least, COST_LIMIT)}
+        return {"least": in_range(record.least, COST), "most": in_range(record.most, (record.least, COST_LIMIT))}
     if isinstance(record, Loop):
-        skip = {} if record.skip is None else {"skip": cost}
-        return {"stride": (STRIDE_LEAST, STRIDE_MOST), "start": cost, **skip, "step": cost}
+        stride = Checked(stride_in_range(record.stride), STRIDE_TEXT)
+        skip = {} if record.skip is None else {"skip": in_range(record.skip, COST)}
+        return {"stride": stride, "start": in_range(record.start, COST), **skip, "step": in_range(record.step, COST)}
     return {}
+
+
+def in_range(number: int, allowed: Range) -> Checked:
+    return Checked(allowed[0] <= number <= allowed[1], range_text(allowed))
 
 
 def listed_skip_hint(entry: Optional[Entry]) -> str:

@@ -4,7 +4,7 @@ import re
 from typing import NamedTuple, NoReturn, Optional
 
 from pumdalin.errors import ListingError
-from pumdalin.ranges import MOST_DIGITS, Range
+from pumdalin.ranges import MOST_DIGITS, Range, range_text
 
 COMMENT = "#"
 # Numbers, names and keywords, the signs, and whatever else stands there.
@@ -69,20 +69,20 @@ class Line:
             self.fail(f"this number has more than {MOST_DIGITS} digits; no field holds it")
         return int(self.take().text)
 
-    def take_number(self, what: str, allowed: Range, stored: Optional[Range] = None) -> int:
+    def take_number(self, what: str, stored: Range, allowed: Optional[str] = None) -> int:
         """A whole number, with or without a minus sign, in the range that can be stored.
 
-        The message names the range that is allowed, which may be smaller: that a number
-        is outside it is for the reader of sheets to say.
+        The message names what is allowed, which may be less: that a number is not allowed
+        is for the reader of sheets to say.
         """
         start = self.next()
         minus = self.take_if("-")
         if not self.next().is_number():
-            self.fail_expecting(f"{what}, a number from {allowed[0]} to {allowed[1]},")
+            self.fail_expecting(f"{what}, a number {allowed or range_text(stored)},")
         value = self.take_digits() * (-1 if minus else 1)
-        least, most = stored or allowed
+        least, most = stored
         if not least <= value <= most:
-            self.fail(f"{what} is {value}; write a number from {allowed[0]} to {allowed[1]}", start)
+            self.fail(f"{what} is {value}; write a number {allowed or range_text(stored)}", start)
         return value
 
     def fail(self, message: str, at: Optional[Word] = None) -> NoReturn:

@@ -6,7 +6,7 @@ is not asked here: that is for the proved reader of sheets to say.
 """
 
 from dataclasses import dataclass, field
-from typing import Callable, Generic, NamedTuple, Optional, TypeVar, Union
+from typing import Callable, Generic, NamedTuple, NoReturn, Optional, TypeVar, Union
 
 from pumdalin.answers import Answer, Figures, LoopReport, Refusal, read_loops
 from pumdalin.errors import ListingError
@@ -16,18 +16,23 @@ from pumdalin.inputs import (
 from pumdalin.listing_bound import read_form
 from pumdalin.listing_line import Line
 from pumdalin.listing_text import KIND_WORDS, PARAMETER_NAMES, index_name
-from pumdalin.ranges import UNSIGNED_16, UNSIGNED_32, UNSIGNED_64
+from pumdalin.ranges import SIGNED_16, UNSIGNED_16, UNSIGNED_32, UNSIGNED_64, range_text
 from pumdalin.records import (
-    COST_LIMIT, END, LOOP, LOOPS, OPENS, PLAIN, SKIP_LOOP, STRIDE_LEAST, STRIDE_MOST, WORK,
+    COST_LIMIT, END, LOOP, LOOPS, OPENS, PLAIN, SKIP_LOOP, STRIDE_LIMIT, WORK,
     Loop, Record, Work, encode_all, kind_of, offsets, used_parameters,
 )
 
+# What the reader of sheets allows, for the messages.
 COST = (0, COST_LIMIT)
-STRIDE = (STRIDE_LEAST, STRIDE_MOST)
+COST_TEXT = range_text(COST)
+STEP_TEXT = f"{COST_TEXT}, since it is what a trip costs; the stride stands after by"
+STRIDE_TEXT = f"{range_text((-STRIDE_LIMIT, STRIDE_LIMIT))} without 0"
 REFUSAL_NUMBERS = (1, 8)
 
 # What a line's first word opens; which of the two kinds a loop is of, its skip says.
 KINDS = {word: kind for kind, word in KIND_WORDS.items() if kind != SKIP_LOOP}
+# The words before a loop's numbers, and the fields of these.
+LOOP_NUMBERS = {"by": "stride", "start": "start", "skip": "skip", "step": "step"}
 
 
 Expected = TypeVar("Expected")
@@ -51,7 +56,7 @@ AnyExpectation = Union[Expectation[Answer], Expectation[LoopReport]]
 
 
 class Entry(NamedTuple):
-    """A record, its line, the columns of its numbers by their names, and how many loops are around it."""
+    """A record, its line, the columns of its numbers and of its bounds by their names, and how many loops are around it."""
 
     record: Record
     line: int
@@ -102,6 +107,11 @@ class Listing:
 
     def loop_offsets(self) -> list[int]:
         return [place for place, record in zip(offsets(self.records), self.records) if isinstance(record, Loop)]
+
+    def expected_ceilings(self, offset: int, values: tuple[int, ...]) -> list[int]:
+        """Of the loop at an offset, what is expected at these values."""
+        return [expected.answer.ceiling for expected in self.loop_expectations
+                if expected.answer.offset == offset and expected.parameters == filled(values)]
 
     def first_use(self, parameter: int) -> Optional[int]:
         """The first line that uses a parameter, numbered from 0."""
@@ -179,36 +189,52 @@ def read_record(line: Line, kind: int, around: int) -> Read:
 
 def read_work(line: Line) -> Read:
     columns = {"least": line.next().column, "most": line.next().column}
-    least = line.take_number("the work", COST, UNSIGNED_16)
+    least = line.take_number("the work", UNSIGNED_16, COST_TEXT)
     if not line.take_if(".."):
         return Work(least, least), columns
     columns["most"] = line.next().column
-    return Work(least, line.take_number("the most of the work", COST, UNSIGNED_16)), columns
+    return Work(least, line.take_number("the most of the work", UNSIGNED_16, COST_TEXT)), columns
 
 
 def read_loop(line: Line, around: int) -> Read:
     name = index_name(around)
     line.take_required(name, f"{name}, the index of a loop at depth {around + 1},")
+    bounds = {"bounds": line.next().column}
     lower = read_form(line, around)
     line.take_required("..", "'..' and the upper bound")
     upper = read_form(line, around)
     numbers, columns = read_loop_numbers(line)
-    return Loop(numbers["start"], numbers["step"], numbers["stride"], lower, upper, numbers.get("skip")), columns
+    loop = Loop(numbers["start"], numbers["step"], numbers["stride"], lower, upper, numbers.get("skip"))
+    return loop, {**bounds, **columns}
 
 
 def read_loop_numbers(line: Line) -> tuple[dict[str, int], dict[str, int]]:
     """Stride, start, skip and step of a loop, in any order, each but the skip with its default; and their columns."""
-    unsaid = {"by": ("stride", STRIDE), "start": ("start", COST), "skip": ("skip", COST), "step": ("step", COST)}
+    unsaid = dict(LOOP_NUMBERS)
     numbers = {"stride": 1, "start": 0, "step": 0}
     columns: dict[str, int] = {}
     while not line.at_end():
         word = line.take_if(*unsaid)
         if word is None:
-            line.fail_expecting(f"{' or '.join(['+', '-', *unsaid])}, or nothing more,")
-        name, allowed = unsaid.pop(word.text)
+            fail_after_loop(line, list(unsaid), after_bound=not columns)
+        name = unsaid.pop(word.text)
         columns[name] = line.next().column
-        numbers[name] = line.take_number(f"the {name}", allowed, UNSIGNED_16)
+        numbers[name] = read_loop_number(line, name)
     return numbers, columns
+
+
+def fail_after_loop(line: Line, unsaid: list[str], after_bound: bool) -> NoReturn:
+    """What may follow: a bound may go on with a sign, a number may not."""
+    may_follow = (["+", "-"] if after_bound else []) + unsaid
+    line.fail_expecting(f"{' or '.join(may_follow)}, or nothing more," if may_follow else "nothing more")
+
+
+def read_loop_number(line: Line, name: str) -> int:
+    """The stride, whose sign says whether the loop counts up or down, or a cost."""
+    if name == "stride":
+        return line.take_number("the stride", SIGNED_16, STRIDE_TEXT)
+    meant_as_stride = name == "step" and line.next().text == "-"
+    return line.take_number(f"the {name}", UNSIGNED_16, STEP_TEXT if meant_as_stride else COST_TEXT)
 
 
 def read_parameters(line: Line, listing: Listing) -> None:
@@ -222,7 +248,7 @@ def read_parameters(line: Line, listing: Listing) -> None:
 
 
 def read_budget(line: Line, listing: Listing) -> None:
-    listing.budget = line.take_number("the budget", BUDGET_RANGE, STORED_BUDGET_RANGE)
+    listing.budget = line.take_number("the budget", STORED_BUDGET_RANGE, range_text(BUDGET_RANGE))
 
 
 def read_expectation(line: Line, listing: Listing) -> None:

@@ -56,12 +56,16 @@ def record_text(record: Record, loops_around: int) -> str:
 
 def loop_text(loop: Loop, loops_around: int) -> str:
     """A loop's line. A skip has no default: that it is written says which kind the loop is of."""
-    text = f"loop {index_name(loops_around)} {form_text(loop.lower)}..{form_text(loop.upper)}"
-    text += f" by {loop.stride}" if loop.stride != 1 else ""
+    text = f"loop {index_name(loops_around)} {bounds_text(loop.lower, loop.upper, loop.stride)}"
     text += f" start {loop.start}" if loop.start else ""
     text += f" skip {loop.skip}" if loop.skip is not None else ""
     text += f" step {loop.step}" if loop.step else ""
     return text
+
+
+def bounds_text(lower: Form, upper: Form, stride: int) -> str:
+    """Where a loop starts, where it ends, and the stride with its sign."""
+    return f"{form_text(lower)}..{form_text(upper)}" + (f" by {stride}" if stride != 1 else "")
 
 
 def record_lines(records: list[Record]) -> list[str]:

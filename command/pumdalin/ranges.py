@@ -10,3 +10,8 @@ UNSIGNED_64 = (0, 2 ** 64 - 1)
 
 # More digits than any number has that is stored, and few enough to convert at once.
 MOST_DIGITS = 40
+
+
+def range_text(allowed: Range) -> str:
+    """A range in words."""
+    return f"from {allowed[0]} to {allowed[1]}"

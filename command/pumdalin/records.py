@@ -28,8 +28,7 @@ PARAMETERS = 4
 FORM_LENGTH = 2 + INDEX_FACTORS + PARAMETERS
 
 COST_LIMIT = 4095
-STRIDE_LEAST = 1
-STRIDE_MOST = 1000
+STRIDE_LIMIT = 1000
 CEILING_LIMIT = 2048
 
 
@@ -49,7 +48,7 @@ class Work:
 
 @dataclass(frozen=True)
 class Loop:
-    """A loop of kind 6, or of kind 2, which has no skip of its own."""
+    """A loop of kind 6, or of kind 2, which has no skip of its own; one with a negative stride counts down."""
 
     start: int
     step: int
@@ -57,6 +56,9 @@ class Loop:
     lower: Form
     upper: Form
     skip: Optional[int] = None
+
+    def counts_down(self) -> bool:
+        return self.stride < 0
 
     def skip_differs(self) -> bool:
         """Whether it costs something else than its start where it makes no trip."""
@@ -88,6 +90,11 @@ def kind_of(record: Record) -> int:
     if isinstance(record, Loop) and record.skip is not None:
         return SKIP_LOOP
     return KIND_WITHOUT_SKIP[type(record)]
+
+
+def stride_in_range(stride: int) -> bool:
+    """A stride is from -1,000 to 1,000, and not 0."""
+    return 1 <= abs(stride) <= STRIDE_LIMIT
 
 
 def unsigned(data: bytes) -> int:
@@ -123,7 +130,7 @@ def decode(kind: int, body: bytes) -> Record:
         return Loop(
             unsigned(body[0:2]),
             unsigned(body[2:4]),
-            unsigned(body[4:6]),
+            signed(body[4:6]),
             decode_form(body[6:15]),
             decode_form(body[15:24]),
             unsigned(body[24:26]) if kind == SKIP_LOOP else None,
@@ -137,9 +144,10 @@ def encode(record: Record) -> bytes:
     if isinstance(record, Work):
         return kind + two_bytes_each(record.least, record.most)
     if isinstance(record, Loop):
-        costs = two_bytes_each(record.start, record.step, record.stride)
+        costs = two_bytes_each(record.start, record.step)
+        stride = record.stride.to_bytes(2, "little", signed=True)
         skip = b"" if record.skip is None else two_bytes_each(record.skip)
-        return kind + costs + encode_form(record.lower) + encode_form(record.upper) + skip
+        return kind + costs + stride + encode_form(record.lower) + encode_form(record.upper) + skip
     return kind
 
 

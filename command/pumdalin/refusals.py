@@ -5,7 +5,7 @@ from typing import NamedTuple
 from pumdalin.answers import SKIP_DIFFERS, Refusal
 from pumdalin.inputs import LARGEST_BUDGET
 from pumdalin.records import (
-    CEILING_LIMIT, COST_LIMIT, MOST_LOOPS_DEEP, MOST_OPEN, MOST_RECORDS, STRIDE_LEAST, STRIDE_MOST,
+    CEILING_LIMIT, COST_LIMIT, MOST_LOOPS_DEEP, MOST_OPEN, MOST_RECORDS, STRIDE_LIMIT,
 )
 
 WRITER = "whoever wrote the sheet"
@@ -29,8 +29,8 @@ REFUSALS = {
     2: Words("no kind of record has this number", WRITER, "write a kind of record here",
              "kinds are 1 to 6"),
     3: Words("a field of this record is out of its range", WRITER, "change the field",
-             f"least <= most <= {COST_LIMIT:,}; start, skip and step <= {COST_LIMIT:,}; stride {STRIDE_LEAST} to "
-             f"{STRIDE_MOST:,}; in a bound only the indexes of the loops around"),
+             f"least <= most <= {COST_LIMIT:,}; start, skip and step <= {COST_LIMIT:,}; stride -{STRIDE_LIMIT:,} to "
+             f"{STRIDE_LIMIT:,} without 0; in a bound only the indexes of the loops around"),
     4: Words(f"the sheet has more than {MOST_RECORDS} records", WRITER, "split the sheet before this record",
              f"a sheet has at most {MOST_RECORDS} records"),
     5: Words("this record may not stand here", WRITER, "change the nesting", NESTING),

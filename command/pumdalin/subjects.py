@@ -11,7 +11,8 @@ from pumdalin.inputs import LARGEST_BUDGET, filled, without_value
 from pumdalin.library import Library
 from pumdalin.listing_reader import AnyExpectation, Entry, Listing, read_listing
 from pumdalin.listing_text import KIND_WORDS, PARAMETER_NAMES, index_name
-from pumdalin.records import Loop, Record, decode_at, decode_before, kind_of, used_parameters
+from pumdalin.notes import Asked, direction_note, few_trips_meant
+from pumdalin.records import Loop, Record, decode_at, decode_before, kind_of, offsets, used_parameters
 from pumdalin.refusals import explanation, summary, words_for
 
 
@@ -71,6 +72,16 @@ class ListingSubject:
     def hint(self, refusal: Refusal) -> Optional[str]:
         return listing_hint(self.listing, refusal)
 
+    def notes(self, asked: list[Asked]) -> list[str]:
+        """A line for each loop that seems to count the wrong way at some of the values, with the place of its bounds."""
+        lines: list[str] = []
+        for offset, entry in zip(offsets(self.listing.records), self.listing.entries):
+            if isinstance(entry.record, Loop):
+                asking = [one for one in asked if not few_trips_meant(self.listing.expected_ceilings(offset, one.values))]
+                found = [direction_note(entry.record, offset, self.used(), one) for one in asking]
+                lines += [f"{self.name}:{entry.line}:{entry.columns['bounds']}: note: {note}" for note in found if note][:1]
+        return lines
+
     def value_error(self, parameter: int) -> CommandError:
         return CommandError(f"{PARAMETER_NAMES[parameter]} has no value; give it with --parameters, or in a line "
                             "'parameters' of the listing", f"{self.name}:{self.listing.first_use(parameter)}")
@@ -115,6 +126,10 @@ class SheetSubject:
 
     def hint(self, refusal: Refusal) -> Optional[str]:
         return bytes_hint(self.sheet, refusal)
+
+    def notes(self, asked: list[Asked]) -> list[str]:
+        """None: whoever wrote the bytes decided the direction by a sign there."""
+        return []
 
     def value_error(self, parameter: int) -> CommandError:
         return CommandError(f"the sheet uses {PARAMETER_NAMES[parameter]}, which has no value; give it with "
@@ -170,6 +185,16 @@ def hint_to(subject: Subject, reason: Reason) -> str:
 def tell_refusal(subject: Subject, refusal: Refusal) -> None:
     for line in refusal_lines(subject, refusal):
         tell(line)
+
+
+def tell_notes(subject: Subject, asked: list[Asked]) -> None:
+    for line in subject.notes(asked):
+        tell(line)
+
+
+def given_values(subject: Subject) -> list[Asked]:
+    """The values that a listing gives; no call says anything of its loops."""
+    return [Asked(subject.given()[0], [])]
 
 
 def ask(library: Library, subject: Subject, values: tuple[int, ...], budget: int) -> Report:

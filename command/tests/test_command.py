@@ -191,6 +191,9 @@ class Reasons(CommandTest):
             "meter": ["line 12: loop i walked ceiling 10",
                       "  loop 30 is uneven in loop 0: the loop j of line 14, the loop i of line 12",
                       "line 14: loop j closed ceiling 5"],
+            "drain": ["line 14: loop i walked ceiling 10",
+                      "  loop 30 is uneven in loop 0: the loop j of line 16, the loop i of line 14",
+                      "line 16: loop j closed ceiling 5"],
         }.items():
             self.assertEqual(self.shown(WALKED / f"{name}.listing"), said)
             hints = [line for line in run(WALKED / f"{name}.listing").stdout.decode().splitlines() if "  hint: " in line]
@@ -266,6 +269,7 @@ class Reasons(CommandTest):
             "ramp": ("too-few-trips", [30], [15], "loop 30 may fall below no trips"),
             "purge": ("too-few-trips", [32], [17], "loop 32 may fall below no trips"),
             "meter": ("uneven", [30, 0], [14, 12], "loop 30 is uneven in loop 0"),
+            "drain": ("uneven", [30, 0], [16, 14], "loop 30 is uneven in loop 0"),
         }.items():
             path = WALKED / f"{name}.listing"
             outer, *inner = json.loads(run(path, "--json").stdout)["loops"]

@@ -272,9 +272,9 @@ class Refusals(CommandTest):
             (b"# all of it\rloop i 0..9 skip 1\nend\n", "standard input:1:12: the control character 0x0d"),
             (b"\xef\xbb\xbfloop i 0..9 skip 1\nend\n", "standard input:1:1: this is UTF-8 with a byte order mark"),
             (b"loop i 0..9 skip \xff\n", "standard input:1:18: the byte 0xff is not UTF-8"),
-            (b"loop i 0..9 skip 0x10\nend\n", "standard input:1:19: write + or - or by or start or step"),
+            (b"loop i 0..9 skip 0x10\nend\n", "standard input:1:19: write by or start or step"),
             (b"loop i 0..9 skip 65536\nend\n", "standard input:1:18: the skip is 65536"),
-            (b"loop i 0..9 skip 1 skip 1\nend\n", "standard input:1:20: write + or -"),
+            (b"loop i 0..9 skip 1 skip 1\nend\n", "standard input:1:20: write by or start or step"),
             (b"refused 10 at 0: no sheet\n", "standard input:1:1: this is the listing of a refused sheet"),
         ]:
             self.check(run("convert", "--to", "6", given=data), 2, "", said)

@@ -138,7 +138,8 @@ class LeftToTheReaderOfSheets(unittest.TestCase):
     def test_hints(self) -> None:
         self.assertEqual(self.hint("work 1\nwork 5..3", 3, 5), "column 9: the most is 3, and is to be from 5 to 4095")
         self.assertIn("column 6: the least is 4096", self.hint("work 4096", 3, 0))
-        self.assertIn("column 16: the stride is 0, and is to be from 1 to 1000", self.hint("loop i 0..9 by 0", 3, 0))
+        self.assertIn("column 16: the stride is 0, and is to be from -1000 to 1000 without 0",
+                      self.hint("loop i 0..9 by 0", 3, 0))
         self.assertIn("nothing is open", self.hint("work 1\nend", 5, 5))
         self.assertIn("none is open", self.hint("or", 5, 0))
         self.assertIn("the loop of line 2 is still open", self.hint("choice\nloop i 0..1\nor", 5, 26))
@@ -166,7 +167,7 @@ class Mistakes(MistakesTest):
         self.check("loop i 0 to 9", 1, 10, "write '..' and the upper bound here; this is 'to'")
         self.check("loop i 0..", 1, 11, "this is the end of the line")
         self.check("loop i 0..9 bye 2", 1, 13, "write + or - or by or start or skip or step")
-        self.check("loop i 0..9 by 2 by 3", 1, 18, "write + or - or start or skip or step")
+        self.check("loop i 0..9 by 2 by 3", 1, 18, "write start or skip or step")
         self.check("work 3 4", 1, 8, "write nothing more")
         self.check("work", 1, 5, "write the work, a number from 0 to 4095")
         self.check("parameters 1 2 3 4 5", 1, 20, "write nothing more")

@@ -119,7 +119,7 @@ class Showing(unittest.TestCase):
             "  loop 25 may fall below no trips: the loop j of line 3",
             "  hint: over the ranges of the indexes around it, the loop j of line 3 may start past its end by more than its "
             "stride; in code and listing alike, limit the loops around it, or change its bounds, so that upper - lower >= "
-            "-stride",
+            "-stride; or, where the code counts down from i to 6, write i..6 by -2 in the listing alone",
             "line 3: loop j closed ceiling 4"])
         shown = lines_of(sheet_subject(TOO_FEW), TOO_FEW_TEXT)
         self.assertEqual(shown[1], "  loop 25 may fall below no trips")
@@ -229,11 +229,11 @@ class Expecting(unittest.TestCase):
         self.assertEqual(said_of(Figures(1, 2, 3), report), report.answer)
         for expected, holds in [(NESTED_LOOPS[0], True), (NESTED_LOOPS[0]._replace(reason=NESTED_LOOPS[1].reason), False),
                                 (NESTED_LOOPS[0]._replace(ceiling=9), False), (LoopReport(0, True, 10), False)]:
-            self.assertEqual(Check(Expectation(9, (), 5, expected), NESTED_LOOPS[0]).holds(), holds)
-        self.assertFalse(Check(Expectation(9, (), 5, NESTED_LOOPS[0]), Refusal(8, 0)).holds())
+            self.assertEqual(Check(Expectation(9, (), 5, expected), NESTED_LOOPS[0], []).holds(), holds)
+        self.assertFalse(Check(Expectation(9, (), 5, NESTED_LOOPS[0]), Refusal(8, 0), []).holds())
 
     def test_as_json(self) -> None:
-        said = check_object(Check(Expectation(9, (), 5, NESTED_LOOPS[2]), NESTED_LOOPS[0]))
+        said = check_object(Check(Expectation(9, (), 5, NESTED_LOOPS[2]), NESTED_LOOPS[0], NESTED_LOOPS))
         self.assertEqual(said, {
             "line": 9, "parameters": (0, 0, 0, 0), "budget": 5, "holds": False,
             "expected": {"offset": 50, "closed": True, "ceiling": 10, "reason": None},

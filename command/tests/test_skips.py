@@ -86,9 +86,9 @@ class Reading(unittest.TestCase):
             ("loop i 0..9 skip 65536", 18, "the skip is 65536; write a number from 0 to 4095"),
             ("loop i 0..9 skip " + "9" * 5000, 18, "more than 40 digits"),
             ("loop i 0..9 skip \N{ARABIC-INDIC DIGIT THREE}", 18, "write the skip, a number"),
-            ("loop i 0..9 skip 1 skip 1", 20, "write + or - or by or start or step, or nothing more,"),
-            ("loop i 0..9 skip 1..2", 19, "write + or - or by or start or step"),
-            ("loop i 0..9 skip 1 2", 20, "write + or - or by or start or step"),
+            ("loop i 0..9 skip 1 skip 1", 20, "write by or start or step, or nothing more,"),
+            ("loop i 0..9 skip 1..2", 19, "write by or start or step"),
+            ("loop i 0..9 skip 1 2", 20, "write by or start or step"),
             ("loop i 0..9 Skip 1", 13, "write + or - or by or start or skip or step"),
             ("loop i 0..skip 1", 11, "write a number or one of p1"),
             ("work 3 skip 1", 8, "write nothing more"),
@@ -198,7 +198,7 @@ class Reasons(unittest.TestCase):
         for skip in ("", " skip 4"):
             of_listing, of_bytes = self.hints(PAST_END.format(skip), PAST_END_TEXT.format(84))
             self.assertIn("the loop j of line 2 may start past its end by more than its stride; ", of_listing)
-            self.assertTrue(of_listing.endswith("so that upper - lower >= -stride"), of_listing)
+            self.assertIn("so that upper - lower >= -stride; or, where the code counts down from i to 8, write i..8 by -1", of_listing)
             self.assertIn("loop 25 may start past its end", of_bytes)
         self.assertIn("may make no trip", self.hints(PAST_END.format(" skip 3"), PAST_END_TEXT.format(80))[0])
 

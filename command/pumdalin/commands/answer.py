@@ -13,7 +13,8 @@ from pumdalin.inputs import Parameters, filled
 from pumdalin.library import Library
 from pumdalin.listing_reader import AnyExpectation
 from pumdalin.listing_text import PARAMETER_NAMES
-from pumdalin.subjects import Subject, ask, hint_to, loop_lines, read_subject, refusal_object, tell_refusal
+from pumdalin.notes import Asked
+from pumdalin.subjects import Subject, ask, hint_to, loop_lines, read_subject, refusal_object, tell_notes, tell_refusal
 
 DESCRIPTION = """\
 Least and most cycles that the code of a sheet can take, the visits that the answer
@@ -28,10 +29,11 @@ Said = Union[Answer, LoopReport]
 
 
 class Check(NamedTuple):
-    """What a listing expects, and what is answered."""
+    """What a listing expects, what is answered, and what the call says of the loops."""
 
     expected: AnyExpectation
     answered: Said
+    loops: list[LoopReport]
 
     def holds(self) -> bool:
         return self.expected.answer == self.answered
@@ -47,6 +49,10 @@ class Outcome(NamedTuple):
     answer: Answer
     loops: list[LoopReport]
     checks: list[Check]
+
+    def asked(self) -> list[Asked]:
+        """The values of this call, and those of each expectation."""
+        return [Asked(self.parameters, self.loops), *(Asked(check.expected.parameters, check.loops) for check in self.checks)]
 
     def status(self) -> int:
         answered = isinstance(self.answer, Figures) and all(check.holds() for check in self.checks)
@@ -71,7 +77,9 @@ def run(words: list[str], library: Library, further: str = "") -> int:
         raise CommandError("there is no record; an empty sheet takes no cycles, and is answered where the listing "
                            "expects that: expect 0 0 visits 0", subject.name)
     outcome = outcome_of(given, subject, library)
-    tell_unused(given.parameters or (), outcome)
+    if isinstance(outcome.answer, Figures):
+        tell_unused(given.parameters or (), subject)
+        tell_notes(subject, outcome.asked())
     if given.json:
         write_json(outcome)
     else:
@@ -90,7 +98,7 @@ def outcome_of(given: argparse.Namespace, subject: Subject, library: Library) ->
 
 def checked(expected: AnyExpectation, sheet: bytes, library: Library) -> Check:
     report = library.report(sheet, expected.parameters, expected.budget)
-    return Check(expected, said_of(expected.answer, report))
+    return Check(expected, said_of(expected.answer, report), report.loops)
 
 
 def said_of(expected: Said, report: Report) -> Said:
@@ -108,11 +116,10 @@ def asked_text(parameters: Parameters, budget: int) -> str:
     return f"parameters {' '.join(str(value) for value in parameters)} budget {budget}"
 
 
-def tell_unused(values: tuple[int, ...], outcome: Outcome) -> None:
+def tell_unused(values: tuple[int, ...], subject: Subject) -> None:
     """A value that changes nothing is told: a mistake in the values often shows there."""
-    if isinstance(outcome.answer, Figures):
-        for parameter in set(range(len(values))).difference(outcome.subject.used()):
-            tell(f"{outcome.subject.name}: note: {PARAMETER_NAMES[parameter]} has a value, and no bound uses it")
+    for parameter in set(range(len(values))).difference(subject.used()):
+        tell(f"{subject.name}: note: {PARAMETER_NAMES[parameter]} has a value, and no bound uses it")
 
 
 def write_words(outcome: Outcome) -> None:

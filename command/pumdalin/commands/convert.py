@@ -9,7 +9,7 @@ from pumdalin.errors import ANSWERED, REFUSED
 from pumdalin.files import write_bytes, write_text
 from pumdalin.library import Library
 from pumdalin.records import LOOP, SKIP_LOOP, Loop, decode_before, offsets
-from pumdalin.subjects import Subject, read_subject, refusal_object, tell_refusal
+from pumdalin.subjects import Subject, given_values, read_subject, refusal_object, tell_notes, tell_refusal
 
 SUMMARY = "a sheet with loops of kind 6 alone, or of kind 2"
 DESCRIPTION = """\
@@ -39,6 +39,7 @@ def run(words: list[str], library: Library) -> int:
     converted = converted_sheet(subject.sheet, KINDS[given.to], library)
     if isinstance(converted, bytes):
         write_bytes(given.output, converted)
+        tell_notes(subject, given_values(subject))
     if given.json:
         write_json(subject, given.to, converted)
     elif isinstance(converted, Refusal):

@@ -9,7 +9,7 @@ from pumdalin.errors import ANSWERED, REFUSED
 from pumdalin.files import write_bytes
 from pumdalin.inputs import filled, program_input
 from pumdalin.library import Library
-from pumdalin.subjects import ListingSubject, read_listing_file, require_values, tell_refusal
+from pumdalin.subjects import ListingSubject, given_values, read_listing_file, require_values, tell_notes, tell_refusal
 
 SUMMARY = "a listing as the bytes of its sheet"
 DESCRIPTION = """\
@@ -47,6 +47,7 @@ def run(words: list[str], library: Library) -> int:
         tell_refusal(subject, refusal)
         return REFUSED
     write_bytes(given.output, made(subject, given.c, given.input))
+    tell_notes(subject, given_values(subject))
     return ANSWERED
 
 

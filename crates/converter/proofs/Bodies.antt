@@ -1,6 +1,6 @@
 -- What a record's body says of the record's bytes in the new sheet, and of its skip.
 use mathlib.Core.Path.{_≡_, refl, sym, ap, _∙_, subst}
-use mathlib.Core.List.{List, [], _∷_, _++_, append-nil}
+use mathlib.Core.List.{List, _∷_, _++_, append-nil}
 use mathlib.Core.Bool.{Bool, true, false, not}
 use mathlib.Core.Option.{Option, none, some}
 use Prim.Native.Nat.{ℕ, suc, _+_, _≤_}
@@ -9,24 +9,24 @@ use borrow.Author.Tests.{eq-eqb}
 use lib.Dec.{eqb}
 use lib.ListN.{length, take, length-append}
 use lib.Seq.{take-at}
-use Rattle.meaning.specs.Limits.{bodyLimit}
-use Rattle.meaning.specs.Number.{littleEndian, unsigned16}
+use Rattle.meaning.specs.Limits.{bodyLimit, constantHalf}
+use Rattle.meaning.specs.Number.{littleEndian, encodeSigned, unsigned16}
 use Rattle.meaning.specs.Form.{formBytes}
-use Rattle.meaning.specs.Record.{loopKind, kindNumber, bodyLength, Loop, isGiven, skipWhere, skipOr, skipCycles, skipBytes, Record, workRecord, loopRecord, endRecord, choiceRecord, nextArmRecord, kind, recordLength, decodeRecord, bodyBytes, recordBytes}
+use Rattle.meaning.specs.Record.{loopKind, kindNumber, bodyLength, Loop, isGiven, skipOr, skipCycles, skipBytes, Record, workRecord, loopRecord, endRecord, choiceRecord, nextArmRecord, kind, recordLength, decodeRecord, bodyBytes, recordBytes}
 use Rattle.meaning.specs.Converter.{withSkip, withoutSkip, changeLoop, skipsStart}
 use Rattle.meaning.proofs.Number.{length-littleEndian}
 use Rattle.meaning.proofs.Logic.{true-is-not-false}
 use Rattle.meaning.proofs.RecordBytes.{kindOf-kindNumber, kindNumber-kindOf, bodyLength-bound, length-skipBytes}
 use Rattle.records.specs.View.{isLoopKind, isLoop, skipIn}
 use Rattle.records.proofs.ByKind.{skip-by-number, loop-named}
-use Rattle.converter.specs.Converting.{BodyOf, changed, stays}
+use Rattle.converter.specs.Converting.{BodyOf, changed}
 
 -- ---- a loop's bytes
 
 module _ {l : Loop} {number : ℕ} {body : List ℕ} (b : BodyOf (loopRecord l) number body) where
   -- all but the skip
   abbrev plain : List ℕ
-  plain = littleEndian 2 (l .start) ++ littleEndian 2 (l .step) ++ littleEndian 2 (l .stride) ++ formBytes (l .lower) ++ formBytes (l .upper)
+  plain = littleEndian 2 (l .start) ++ littleEndian 2 (l .step) ++ littleEndian 2 (encodeSigned constantHalf (l .stride)) ++ formBytes (l .lower) ++ formBytes (l .upper)
 
   split : plain ++ skipBytes (l .skip) ≡ body
   unfolding bodyBytes

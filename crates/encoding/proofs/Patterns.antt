@@ -1,9 +1,9 @@
 -- Two's complement patterns both ways: what casts to a wider type, a sum or a difference there and a cast back make of a number.
 use mathlib.Core.Path.{_≡_, refl, sym, ap, subst, _∙_}
-use mathlib.Core.Bool.{Bool, true, false, cond}
+use mathlib.Core.Bool.{true, false}
 use Prim.Native.Nat.{ℕ, zero, suc, _+_, _-_, _^_, _<_, _≤_}
 use native.Mathlib.Omega.{arith}
-use borrow.Author.Tests.{lt-ltb, le-ltb, ltb-true}
+use borrow.Author.Tests.{ltb-true}
 use lib.Dec.{T, leb, lt→ltb}
 use lib.IntN.{ℤ, pos, negsuc, natAbs, _+ℤ_, _-ℤ_}
 use lib.Signed.{mag, ltZ, nonNeg}
@@ -14,7 +14,7 @@ use Rattle.whole.proofs.Order.{subℕ-pos, subℕ-negsuc}
 use Rattle.meaning.specs.Limits.{constantHalf, factorHalf}
 use Rattle.meaning.specs.Number.{decodeSigned, encodeSigned, hasPattern}
 use Rattle.meaning.proofs.Logic.{true-is-not-false}
-use Rattle.meaning.proofs.Number.{encode-bound}
+use Rattle.meaning.proofs.Number.{decoded-low, decoded-high, encode-bound}
 
 -- w is the type of half + half patterns, v a wider one that is reckoned in
 pub record Widths (half : ℕ) (w v : Width) : Type 0 where
@@ -34,14 +34,6 @@ bits16 = record { narrow = refl; whole = omega arith; wide = omega arith; wider 
 minus : (u n : ℕ) → u < n → pos u -ℤ pos n ≡ negsuc (n - suc u)
 minus u zero l = absurd (omega arith)
 minus u (suc n) l = subℕ-negsuc u (suc n) l
-
-decoded-low : (half u : ℕ) → u < half → decodeSigned half u ≡ pos u
-unfolding decodeSigned
-decoded-low half u l = ap (λ (b : Bool). cond b (pos u) (negsuc (half + half - suc u))) (lt-ltb u half l)
-
-decoded-high : (half u : ℕ) → half ≤ u → decodeSigned half u ≡ negsuc (half + half - suc u)
-unfolding decodeSigned
-decoded-high half u h = ap (λ (b : Bool). cond b (pos u) (negsuc (half + half - suc u))) (le-ltb u half h)
 
 module _ {half : ℕ} {w v : Width} (widths : Widths half w v) (u : ℕ) where
   -- a pattern below half stands for itself

@@ -23,22 +23,22 @@ abbrev noForm : Form
 noForm = form (pos 0) (pos 0 ∷ pos 0 ∷ pos 0 ∷ []) (pos 0 ∷ pos 0 ∷ pos 0 ∷ pos 0 ∷ [])
 
 abbrev aWork : RawRecord
-aWork = raw 1 1 2 0 0 0 noForm noForm 0
+aWork = raw 1 1 2 0 0 (pos 0) noForm noForm 0
 
 abbrev aLoop : RawRecord
-aLoop = raw 2 0 0 0 0 1 noForm (form (pos 3) (pos 0 ∷ pos 0 ∷ pos 0 ∷ []) (pos 0 ∷ pos 0 ∷ pos 0 ∷ pos 0 ∷ [])) 0
+aLoop = raw 2 0 0 0 0 (pos 1) noForm (form (pos 3) (pos 0 ∷ pos 0 ∷ pos 0 ∷ []) (pos 0 ∷ pos 0 ∷ pos 0 ∷ pos 0 ∷ [])) 0
 
 abbrev anEnd : RawRecord
-anEnd = raw 3 0 0 0 0 0 noForm noForm 0
+anEnd = raw 3 0 0 0 0 (pos 0) noForm noForm 0
 
 abbrev aChoice : RawRecord
-aChoice = raw 4 0 0 0 0 0 noForm noForm 0
+aChoice = raw 4 0 0 0 0 (pos 0) noForm noForm 0
 
 abbrev aNextArm : RawRecord
-aNextArm = raw 5 0 0 0 0 0 noForm noForm 0
+aNextArm = raw 5 0 0 0 0 (pos 0) noForm noForm 0
 
 abbrev aSkipLoop : RawRecord
-aSkipLoop = raw 6 0 0 3 0 1 noForm (form (pos 3) (pos 0 ∷ pos 0 ∷ pos 0 ∷ []) (pos 0 ∷ pos 0 ∷ pos 0 ∷ pos 0 ∷ [])) 1
+aSkipLoop = raw 6 0 0 3 0 (pos 1) noForm (form (pos 3) (pos 0 ∷ pos 0 ∷ pos 0 ∷ []) (pos 0 ∷ pos 0 ∷ pos 0 ∷ pos 0 ∷ [])) 1
 
 pub writer-1 :
     -- count 0, no buffer
@@ -46,9 +46,9 @@ pub writer-1 :
     -- count 0, the buffer stays
     × (write [] 0 (hex "c9ca") ≡ written 0 (hex "c9ca"))
     -- count 0, an entry of no kind past it
-    × (write (raw 9 0 0 0 0 0 noForm noForm 0 ∷ []) 0 (hex "07") ≡ written 0 (hex "07"))
+    × (write (raw 9 0 0 0 0 (pos 0) noForm noForm 0 ∷ []) 0 (hex "07") ≡ written 0 (hex "07"))
     -- count 1, entries past it are not looked at
-    × (write (aWork ∷ raw 9 3 0 0 0 0 noForm noForm 0 ∷ aChoice ∷ []) 1 (hex "05060708090a") ≡ written 5 (hex "01010002000a"))
+    × (write (aWork ∷ raw 9 3 0 0 0 (pos 0) noForm noForm 0 ∷ aChoice ∷ []) 1 (hex "05060708090a") ≡ written 5 (hex "01010002000a"))
     -- 63 records
     × (write (aChoice ∷ aNextArm ∷ anEnd ∷ aChoice ∷ aNextArm ∷ anEnd ∷ aChoice ∷ aNextArm ∷ anEnd ∷ aChoice ∷ aNextArm ∷ anEnd ∷ aChoice ∷ aNextArm ∷ anEnd ∷ aChoice ∷ aNextArm ∷ anEnd ∷ aChoice ∷ aNextArm ∷ anEnd ∷ aChoice ∷ aNextArm ∷ anEnd ∷ aChoice ∷ aNextArm ∷ anEnd ∷ aChoice ∷ aNextArm ∷ anEnd ∷ aChoice ∷ aNextArm ∷ anEnd ∷ aChoice ∷ aNextArm ∷ anEnd ∷ aChoice ∷ aNextArm ∷ anEnd ∷ aChoice ∷ aNextArm ∷ anEnd ∷ aChoice ∷ aNextArm ∷ anEnd ∷ aChoice ∷ aNextArm ∷ anEnd ∷ aChoice ∷ aNextArm ∷ anEnd ∷ aChoice ∷ aNextArm ∷ anEnd ∷ aChoice ∷ aNextArm ∷ anEnd ∷ aChoice ∷ aNextArm ∷ anEnd ∷ aChoice ∷ aNextArm ∷ anEnd ∷ []) 63 (hex "c9cacbcccdcecfd0d1d2d3d4d5d6d7d8d9dadbdcdddedfe0e1e2e3e4e5e6e7e8e9eaebecedeeeff0f1f2f3f4f5f6f7f8f9fac9cacbcccdcecfd0d1d2d3d4d5d6") ≡ written 63 (hex "040503040503040503040503040503040503040503040503040503040503040503040503040503040503040503040503040503040503040503040503040503d6"))
     -- 64 records
@@ -58,7 +58,7 @@ pub writer-1 :
     -- count 65
     × (write (aChoice ∷ anEnd ∷ aChoice ∷ anEnd ∷ aChoice ∷ anEnd ∷ aChoice ∷ anEnd ∷ aChoice ∷ anEnd ∷ aChoice ∷ anEnd ∷ aChoice ∷ anEnd ∷ aChoice ∷ anEnd ∷ aChoice ∷ anEnd ∷ aChoice ∷ anEnd ∷ aChoice ∷ anEnd ∷ aChoice ∷ anEnd ∷ aChoice ∷ anEnd ∷ aChoice ∷ anEnd ∷ aChoice ∷ anEnd ∷ aChoice ∷ anEnd ∷ aChoice ∷ anEnd ∷ aChoice ∷ anEnd ∷ aChoice ∷ anEnd ∷ aChoice ∷ anEnd ∷ aChoice ∷ anEnd ∷ aChoice ∷ anEnd ∷ aChoice ∷ anEnd ∷ aChoice ∷ anEnd ∷ aChoice ∷ anEnd ∷ aChoice ∷ anEnd ∷ aChoice ∷ anEnd ∷ aChoice ∷ anEnd ∷ aChoice ∷ anEnd ∷ aChoice ∷ anEnd ∷ aChoice ∷ anEnd ∷ aChoice ∷ anEnd ∷ []) 65 (hex "0102") ≡ notWritten 4 0 (hex "0102"))
     -- 4 before 2
-    × (write (raw 9 0 0 0 0 0 noForm noForm 0 ∷ []) 65 [] ≡ notWritten 4 0 [])
+    × (write (raw 9 0 0 0 0 (pos 0) noForm noForm 0 ∷ []) 65 [] ≡ notWritten 4 0 [])
     -- buffer just as long
     × (write (aWork ∷ []) 1 (hex "c9cacbcccd") ≡ written 5 (hex "0101000200"))
     -- buffer one shorter
@@ -70,173 +70,203 @@ pub writer-1 :
     -- all kinds
     × (write (aChoice ∷ aLoop ∷ aWork ∷ anEnd ∷ aNextArm ∷ aSkipLoop ∷ anEnd ∷ anEnd ∷ []) 8 (hex "c9cacbcccdcecfd0d1d2d3d4d5d6d7d8d9dadbdcdddedfe0e1e2e3e4e5e6e7e8e9eaebecedeeeff0f1f2f3f4f5f6f7f8f9fac9cacbcccdcecfd0d1d2d3d4d5d6d7") ≡ written 62 (hex "0402000000000100000000000000000000030000000000000000010100020003050603000000010000000000000000000003000000000000000001000303d5d6d7"))
     -- a loop's fields in order, signed ones
-    × (write (raw 2 0 0 4095 258 1000 (form (negsuc 1) (pos 0 ∷ pos 0 ∷ pos 0 ∷ []) (pos 1 ∷ negsuc 0 ∷ pos 127 ∷ negsuc 127 ∷ [])) (form (pos 300) (pos 0 ∷ pos 0 ∷ pos 0 ∷ []) (negsuc 2 ∷ pos 4 ∷ pos 0 ∷ pos 5 ∷ [])) 0 ∷ anEnd ∷ []) 2 (hex "c9cacbcccdcecfd0d1d2d3d4d5d6d7d8d9dadbdcdddedfe0e1e2") ≡ written 26 (hex "02ff0f0201e803feff00000001ff7f802c01000000fd04000503"))
+    × (write (raw 2 0 0 4095 258 (pos 1000) (form (negsuc 1) (pos 0 ∷ pos 0 ∷ pos 0 ∷ []) (pos 1 ∷ negsuc 0 ∷ pos 127 ∷ negsuc 127 ∷ [])) (form (pos 300) (pos 0 ∷ pos 0 ∷ pos 0 ∷ []) (negsuc 2 ∷ pos 4 ∷ pos 0 ∷ pos 5 ∷ [])) 0 ∷ anEnd ∷ []) 2 (hex "c9cacbcccdcecfd0d1d2d3d4d5d6d7d8d9dadbdcdddedfe0e1e2") ≡ written 26 (hex "02ff0f0201e803feff00000001ff7f802c01000000fd04000503"))
     -- a loop's fields in order, skip last
-    × (write (raw 6 0 0 4095 258 1000 (form (negsuc 1) (pos 0 ∷ pos 0 ∷ pos 0 ∷ []) (pos 1 ∷ negsuc 0 ∷ pos 127 ∷ negsuc 127 ∷ [])) (form (pos 300) (pos 0 ∷ pos 0 ∷ pos 0 ∷ []) (negsuc 2 ∷ pos 4 ∷ pos 0 ∷ pos 5 ∷ [])) 769 ∷ anEnd ∷ []) 2 (hex "c9cacbcccdcecfd0d1d2d3d4d5d6d7d8d9dadbdcdddedfe0e1e2e3e4") ≡ written 28 (hex "06ff0f0201e803feff00000001ff7f802c01000000fd040005010303"))
+    × (write (raw 6 0 0 4095 258 (pos 1000) (form (negsuc 1) (pos 0 ∷ pos 0 ∷ pos 0 ∷ []) (pos 1 ∷ negsuc 0 ∷ pos 127 ∷ negsuc 127 ∷ [])) (form (pos 300) (pos 0 ∷ pos 0 ∷ pos 0 ∷ []) (negsuc 2 ∷ pos 4 ∷ pos 0 ∷ pos 5 ∷ [])) 769 ∷ anEnd ∷ []) 2 (hex "c9cacbcccdcecfd0d1d2d3d4d5d6d7d8d9dadbdcdddedfe0e1e2e3e4") ≡ written 28 (hex "06ff0f0201e803feff00000001ff7f802c01000000fd040005010303"))
+    -- a loop's fields in order, a negative stride
+    × (write (raw 2 0 0 4095 258 (negsuc 768) (form (negsuc 1) (pos 0 ∷ pos 0 ∷ pos 0 ∷ []) (pos 1 ∷ negsuc 0 ∷ pos 127 ∷ negsuc 127 ∷ [])) (form (pos 300) (pos 0 ∷ pos 0 ∷ pos 0 ∷ []) (negsuc 2 ∷ pos 4 ∷ pos 0 ∷ pos 5 ∷ [])) 0 ∷ anEnd ∷ []) 2 (hex "c9cacbcccdcecfd0d1d2d3d4d5d6d7d8d9dadbdcdddedfe0e1e2") ≡ written 26 (hex "02ff0f0201fffcfeff00000001ff7f802c01000000fd04000503"))
+    -- a loop's fields in order, a negative stride and skip last
+    × (write (raw 6 0 0 4095 258 (negsuc 768) (form (negsuc 1) (pos 0 ∷ pos 0 ∷ pos 0 ∷ []) (pos 1 ∷ negsuc 0 ∷ pos 127 ∷ negsuc 127 ∷ [])) (form (pos 300) (pos 0 ∷ pos 0 ∷ pos 0 ∷ []) (negsuc 2 ∷ pos 4 ∷ pos 0 ∷ pos 5 ∷ [])) 513 ∷ anEnd ∷ []) 2 (hex "c9cacbcccdcecfd0d1d2d3d4d5d6d7d8d9dadbdcdddedfe0e1e2e3e4") ≡ written 28 (hex "06ff0f0201fffcfeff00000001ff7f802c01000000fd040005010203"))
     -- a loop with a skip, buffer one shorter
     × (write (aSkipLoop ∷ anEnd ∷ []) 2 (hex "c9cacbcccdcecfd0d1d2d3d4d5d6d7d8d9dadbdcdddedfe0e1e2e3") ≡ notWritten 9 0 (hex "c9cacbcccdcecfd0d1d2d3d4d5d6d7d8d9dadbdcdddedfe0e1e2e3"))
     -- kind 0
-    × (write (raw 0 0 0 0 0 0 noForm noForm 0 ∷ []) 1 (hex "c9cacbcc") ≡ notWritten 2 0 (hex "c9cacbcc"))
-    -- kind 7
-    × (write (raw 7 0 0 0 0 0 noForm noForm 0 ∷ []) 1 (hex "c9cacbcc") ≡ notWritten 2 0 (hex "c9cacbcc"))
-    -- kind 255 after a work
-    × (write (aWork ∷ raw 255 0 0 0 0 0 noForm noForm 0 ∷ []) 2 (hex "c9cacbcc") ≡ notWritten 2 5 (hex "c9cacbcc"))
+    × (write (raw 0 0 0 0 0 (pos 0) noForm noForm 0 ∷ []) 1 (hex "c9cacbcc") ≡ notWritten 2 0 (hex "c9cacbcc"))
 unfolding computes
 writer-1 = (refl, refl, refl, refl, refl, refl, refl, refl, refl, refl, refl, refl, refl, refl, refl, refl, refl, refl, refl, refl)
 
 pub writer-2 :
+    -- kind 7
+    (write (raw 7 0 0 0 0 (pos 0) noForm noForm 0 ∷ []) 1 (hex "c9cacbcc") ≡ notWritten 2 0 (hex "c9cacbcc"))
+    -- kind 255 after a work
+    × (write (aWork ∷ raw 255 0 0 0 0 (pos 0) noForm noForm 0 ∷ []) 2 (hex "c9cacbcc") ≡ notWritten 2 5 (hex "c9cacbcc"))
     -- 2 before 3
-    (write (raw 7 1 0 0 0 2000 noForm noForm 0 ∷ []) 1 (hex "c9cacbcc") ≡ notWritten 2 0 (hex "c9cacbcc"))
+    × (write (raw 7 1 0 0 0 (pos 2000) noForm noForm 0 ∷ []) 1 (hex "c9cacbcc") ≡ notWritten 2 0 (hex "c9cacbcc"))
     -- most 4,095
-    × (write (raw 1 0 4095 0 0 0 noForm noForm 0 ∷ []) 1 (hex "c9cacbcccd") ≡ written 5 (hex "010000ff0f"))
+    × (write (raw 1 0 4095 0 0 (pos 0) noForm noForm 0 ∷ []) 1 (hex "c9cacbcccd") ≡ written 5 (hex "010000ff0f"))
     -- least 4,095
-    × (write (raw 1 4095 4095 0 0 0 noForm noForm 0 ∷ []) 1 (hex "c9cacbcccd") ≡ written 5 (hex "01ff0fff0f"))
+    × (write (raw 1 4095 4095 0 0 (pos 0) noForm noForm 0 ∷ []) 1 (hex "c9cacbcccd") ≡ written 5 (hex "01ff0fff0f"))
     -- most 4,096
-    × (write (raw 1 0 4096 0 0 0 noForm noForm 0 ∷ []) 1 (hex "c9cacbcccd") ≡ notWritten 3 0 (hex "c9cacbcccd"))
+    × (write (raw 1 0 4096 0 0 (pos 0) noForm noForm 0 ∷ []) 1 (hex "c9cacbcccd") ≡ notWritten 3 0 (hex "c9cacbcccd"))
     -- most 65,535
-    × (write (raw 1 0 65535 0 0 0 noForm noForm 0 ∷ []) 1 (hex "c9cacbcccd") ≡ notWritten 3 0 (hex "c9cacbcccd"))
+    × (write (raw 1 0 65535 0 0 (pos 0) noForm noForm 0 ∷ []) 1 (hex "c9cacbcccd") ≡ notWritten 3 0 (hex "c9cacbcccd"))
     -- least above most
-    × (write (raw 1 3 2 0 0 0 noForm noForm 0 ∷ []) 1 (hex "c9cacbcccd") ≡ notWritten 3 0 (hex "c9cacbcccd"))
+    × (write (raw 1 3 2 0 0 (pos 0) noForm noForm 0 ∷ []) 1 (hex "c9cacbcccd") ≡ notWritten 3 0 (hex "c9cacbcccd"))
     -- 3 at the second record
-    × (write (aWork ∷ raw 1 1 0 0 0 0 noForm noForm 0 ∷ []) 2 (hex "c9cacbcccdcecfd0d1d2") ≡ notWritten 3 5 (hex "c9cacbcccdcecfd0d1d2"))
+    × (write (aWork ∷ raw 1 1 0 0 0 (pos 0) noForm noForm 0 ∷ []) 2 (hex "c9cacbcccdcecfd0d1d2") ≡ notWritten 3 5 (hex "c9cacbcccdcecfd0d1d2"))
     -- start 4,095
-    × (write (raw 2 0 0 4095 0 1 noForm (form (pos 3) (pos 0 ∷ pos 0 ∷ pos 0 ∷ []) (pos 0 ∷ pos 0 ∷ pos 0 ∷ pos 0 ∷ [])) 0 ∷ anEnd ∷ []) 2 (hex "c9cacbcccdcecfd0d1d2d3d4d5d6d7d8d9dadbdcdddedfe0e1e2") ≡ written 26 (hex "02ff0f0000010000000000000000000003000000000000000003"))
+    × (write (raw 2 0 0 4095 0 (pos 1) noForm (form (pos 3) (pos 0 ∷ pos 0 ∷ pos 0 ∷ []) (pos 0 ∷ pos 0 ∷ pos 0 ∷ pos 0 ∷ [])) 0 ∷ anEnd ∷ []) 2 (hex "c9cacbcccdcecfd0d1d2d3d4d5d6d7d8d9dadbdcdddedfe0e1e2") ≡ written 26 (hex "02ff0f0000010000000000000000000003000000000000000003"))
     -- start 4,096
-    × (write (raw 2 0 0 4096 0 1 noForm (form (pos 3) (pos 0 ∷ pos 0 ∷ pos 0 ∷ []) (pos 0 ∷ pos 0 ∷ pos 0 ∷ pos 0 ∷ [])) 0 ∷ anEnd ∷ []) 2 (hex "c9cacbcccdcecfd0d1d2d3d4d5d6d7d8d9dadbdcdddedfe0e1e2") ≡ notWritten 3 0 (hex "c9cacbcccdcecfd0d1d2d3d4d5d6d7d8d9dadbdcdddedfe0e1e2"))
+    × (write (raw 2 0 0 4096 0 (pos 1) noForm (form (pos 3) (pos 0 ∷ pos 0 ∷ pos 0 ∷ []) (pos 0 ∷ pos 0 ∷ pos 0 ∷ pos 0 ∷ [])) 0 ∷ anEnd ∷ []) 2 (hex "c9cacbcccdcecfd0d1d2d3d4d5d6d7d8d9dadbdcdddedfe0e1e2") ≡ notWritten 3 0 (hex "c9cacbcccdcecfd0d1d2d3d4d5d6d7d8d9dadbdcdddedfe0e1e2"))
     -- step 4,095
-    × (write (raw 2 0 0 0 4095 1 noForm (form (pos 3) (pos 0 ∷ pos 0 ∷ pos 0 ∷ []) (pos 0 ∷ pos 0 ∷ pos 0 ∷ pos 0 ∷ [])) 0 ∷ anEnd ∷ []) 2 (hex "c9cacbcccdcecfd0d1d2d3d4d5d6d7d8d9dadbdcdddedfe0e1e2") ≡ written 26 (hex "020000ff0f010000000000000000000003000000000000000003"))
+    × (write (raw 2 0 0 0 4095 (pos 1) noForm (form (pos 3) (pos 0 ∷ pos 0 ∷ pos 0 ∷ []) (pos 0 ∷ pos 0 ∷ pos 0 ∷ pos 0 ∷ [])) 0 ∷ anEnd ∷ []) 2 (hex "c9cacbcccdcecfd0d1d2d3d4d5d6d7d8d9dadbdcdddedfe0e1e2") ≡ written 26 (hex "020000ff0f010000000000000000000003000000000000000003"))
     -- step 4,096
-    × (write (raw 2 0 0 0 4096 1 noForm (form (pos 3) (pos 0 ∷ pos 0 ∷ pos 0 ∷ []) (pos 0 ∷ pos 0 ∷ pos 0 ∷ pos 0 ∷ [])) 0 ∷ anEnd ∷ []) 2 (hex "c9cacbcccdcecfd0d1d2d3d4d5d6d7d8d9dadbdcdddedfe0e1e2") ≡ notWritten 3 0 (hex "c9cacbcccdcecfd0d1d2d3d4d5d6d7d8d9dadbdcdddedfe0e1e2"))
+    × (write (raw 2 0 0 0 4096 (pos 1) noForm (form (pos 3) (pos 0 ∷ pos 0 ∷ pos 0 ∷ []) (pos 0 ∷ pos 0 ∷ pos 0 ∷ pos 0 ∷ [])) 0 ∷ anEnd ∷ []) 2 (hex "c9cacbcccdcecfd0d1d2d3d4d5d6d7d8d9dadbdcdddedfe0e1e2") ≡ notWritten 3 0 (hex "c9cacbcccdcecfd0d1d2d3d4d5d6d7d8d9dadbdcdddedfe0e1e2"))
     -- stride 0
-    × (write (raw 2 0 0 0 0 0 noForm (form (pos 3) (pos 0 ∷ pos 0 ∷ pos 0 ∷ []) (pos 0 ∷ pos 0 ∷ pos 0 ∷ pos 0 ∷ [])) 0 ∷ anEnd ∷ []) 2 (hex "c9cacbcccdcecfd0d1d2d3d4d5d6d7d8d9dadbdcdddedfe0e1e2") ≡ notWritten 3 0 (hex "c9cacbcccdcecfd0d1d2d3d4d5d6d7d8d9dadbdcdddedfe0e1e2"))
+    × (write (raw 2 0 0 0 0 (pos 0) noForm (form (pos 3) (pos 0 ∷ pos 0 ∷ pos 0 ∷ []) (pos 0 ∷ pos 0 ∷ pos 0 ∷ pos 0 ∷ [])) 0 ∷ anEnd ∷ []) 2 (hex "c9cacbcccdcecfd0d1d2d3d4d5d6d7d8d9dadbdcdddedfe0e1e2") ≡ notWritten 3 0 (hex "c9cacbcccdcecfd0d1d2d3d4d5d6d7d8d9dadbdcdddedfe0e1e2"))
     -- stride 1,000
-    × (write (raw 2 0 0 0 0 1000 noForm (form (pos 3) (pos 0 ∷ pos 0 ∷ pos 0 ∷ []) (pos 0 ∷ pos 0 ∷ pos 0 ∷ pos 0 ∷ [])) 0 ∷ anEnd ∷ []) 2 (hex "c9cacbcccdcecfd0d1d2d3d4d5d6d7d8d9dadbdcdddedfe0e1e2") ≡ written 26 (hex "0200000000e80300000000000000000003000000000000000003"))
+    × (write (raw 2 0 0 0 0 (pos 1000) noForm (form (pos 3) (pos 0 ∷ pos 0 ∷ pos 0 ∷ []) (pos 0 ∷ pos 0 ∷ pos 0 ∷ pos 0 ∷ [])) 0 ∷ anEnd ∷ []) 2 (hex "c9cacbcccdcecfd0d1d2d3d4d5d6d7d8d9dadbdcdddedfe0e1e2") ≡ written 26 (hex "0200000000e80300000000000000000003000000000000000003"))
     -- stride 1,001
-    × (write (raw 2 0 0 0 0 1001 noForm (form (pos 3) (pos 0 ∷ pos 0 ∷ pos 0 ∷ []) (pos 0 ∷ pos 0 ∷ pos 0 ∷ pos 0 ∷ [])) 0 ∷ anEnd ∷ []) 2 (hex "c9cacbcccdcecfd0d1d2d3d4d5d6d7d8d9dadbdcdddedfe0e1e2") ≡ notWritten 3 0 (hex "c9cacbcccdcecfd0d1d2d3d4d5d6d7d8d9dadbdcdddedfe0e1e2"))
-    -- skip 4,095
-    × (write (raw 6 0 0 3 0 1 noForm (form (pos 3) (pos 0 ∷ pos 0 ∷ pos 0 ∷ []) (pos 0 ∷ pos 0 ∷ pos 0 ∷ pos 0 ∷ [])) 4095 ∷ anEnd ∷ []) 2 (hex "c9cacbcccdcecfd0d1d2d3d4d5d6d7d8d9dadbdcdddedfe0e1e2e3e4") ≡ written 28 (hex "06030000000100000000000000000000030000000000000000ff0f03"))
-    -- skip 4,096
-    × (write (raw 6 0 0 3 0 1 noForm (form (pos 3) (pos 0 ∷ pos 0 ∷ pos 0 ∷ []) (pos 0 ∷ pos 0 ∷ pos 0 ∷ pos 0 ∷ [])) 4096 ∷ anEnd ∷ []) 2 (hex "c9cacbcccdcecfd0d1d2d3d4d5d6d7d8d9dadbdcdddedfe0e1e2e3e4") ≡ notWritten 3 0 (hex "c9cacbcccdcecfd0d1d2d3d4d5d6d7d8d9dadbdcdddedfe0e1e2e3e4"))
-    -- skip 65,535
-    × (write (raw 6 0 0 3 0 1 noForm (form (pos 3) (pos 0 ∷ pos 0 ∷ pos 0 ∷ []) (pos 0 ∷ pos 0 ∷ pos 0 ∷ pos 0 ∷ [])) 65535 ∷ anEnd ∷ []) 2 (hex "c9cacbcccdcecfd0d1d2d3d4d5d6d7d8d9dadbdcdddedfe0e1e2e3e4") ≡ notWritten 3 0 (hex "c9cacbcccdcecfd0d1d2d3d4d5d6d7d8d9dadbdcdddedfe0e1e2e3e4"))
-    -- skip 0
-    × (write (raw 6 0 0 3 0 1 noForm (form (pos 3) (pos 0 ∷ pos 0 ∷ pos 0 ∷ []) (pos 0 ∷ pos 0 ∷ pos 0 ∷ pos 0 ∷ [])) 0 ∷ anEnd ∷ []) 2 (hex "c9cacbcccdcecfd0d1d2d3d4d5d6d7d8d9dadbdcdddedfe0e1e2e3e4") ≡ written 28 (hex "06030000000100000000000000000000030000000000000000000003"))
-    -- skip equal to start
-    × (write (raw 6 0 0 3 0 1 noForm (form (pos 3) (pos 0 ∷ pos 0 ∷ pos 0 ∷ []) (pos 0 ∷ pos 0 ∷ pos 0 ∷ pos 0 ∷ [])) 3 ∷ anEnd ∷ []) 2 (hex "c9cacbcccdcecfd0d1d2d3d4d5d6d7d8d9dadbdcdddedfe0e1e2e3e4") ≡ written 28 (hex "06030000000100000000000000000000030000000000000000030003"))
-    -- kind 2 with a skip equal to start
-    × (write (raw 2 0 0 3 0 1 noForm (form (pos 3) (pos 0 ∷ pos 0 ∷ pos 0 ∷ []) (pos 0 ∷ pos 0 ∷ pos 0 ∷ pos 0 ∷ [])) 3 ∷ anEnd ∷ []) 2 (hex "c9cacbcccdcecfd0d1d2d3d4d5d6d7d8d9dadbdcdddedfe0e1e2") ≡ notWritten 3 0 (hex "c9cacbcccdcecfd0d1d2d3d4d5d6d7d8d9dadbdcdddedfe0e1e2"))
+    × (write (raw 2 0 0 0 0 (pos 1001) noForm (form (pos 3) (pos 0 ∷ pos 0 ∷ pos 0 ∷ []) (pos 0 ∷ pos 0 ∷ pos 0 ∷ pos 0 ∷ [])) 0 ∷ anEnd ∷ []) 2 (hex "c9cacbcccdcecfd0d1d2d3d4d5d6d7d8d9dadbdcdddedfe0e1e2") ≡ notWritten 3 0 (hex "c9cacbcccdcecfd0d1d2d3d4d5d6d7d8d9dadbdcdddedfe0e1e2"))
+    -- stride 32,767
+    × (write (raw 2 0 0 0 0 (pos 32767) noForm (form (pos 3) (pos 0 ∷ pos 0 ∷ pos 0 ∷ []) (pos 0 ∷ pos 0 ∷ pos 0 ∷ pos 0 ∷ [])) 0 ∷ anEnd ∷ []) 2 (hex "c9cacbcccdcecfd0d1d2d3d4d5d6d7d8d9dadbdcdddedfe0e1e2") ≡ notWritten 3 0 (hex "c9cacbcccdcecfd0d1d2d3d4d5d6d7d8d9dadbdcdddedfe0e1e2"))
+    -- stride -1
+    × (write (raw 2 0 0 0 0 (negsuc 0) noForm (form (pos 3) (pos 0 ∷ pos 0 ∷ pos 0 ∷ []) (pos 0 ∷ pos 0 ∷ pos 0 ∷ pos 0 ∷ [])) 0 ∷ anEnd ∷ []) 2 (hex "c9cacbcccdcecfd0d1d2d3d4d5d6d7d8d9dadbdcdddedfe0e1e2") ≡ written 26 (hex "0200000000ffff00000000000000000003000000000000000003"))
+    -- stride -1,000
+    × (write (raw 2 0 0 0 0 (negsuc 999) noForm (form (pos 3) (pos 0 ∷ pos 0 ∷ pos 0 ∷ []) (pos 0 ∷ pos 0 ∷ pos 0 ∷ pos 0 ∷ [])) 0 ∷ anEnd ∷ []) 2 (hex "c9cacbcccdcecfd0d1d2d3d4d5d6d7d8d9dadbdcdddedfe0e1e2") ≡ written 26 (hex "020000000018fc00000000000000000003000000000000000003"))
+    -- stride -1,001
+    × (write (raw 2 0 0 0 0 (negsuc 1000) noForm (form (pos 3) (pos 0 ∷ pos 0 ∷ pos 0 ∷ []) (pos 0 ∷ pos 0 ∷ pos 0 ∷ pos 0 ∷ [])) 0 ∷ anEnd ∷ []) 2 (hex "c9cacbcccdcecfd0d1d2d3d4d5d6d7d8d9dadbdcdddedfe0e1e2") ≡ notWritten 3 0 (hex "c9cacbcccdcecfd0d1d2d3d4d5d6d7d8d9dadbdcdddedfe0e1e2"))
 unfolding computes
 writer-2 = (refl, refl, refl, refl, refl, refl, refl, refl, refl, refl, refl, refl, refl, refl, refl, refl, refl, refl, refl, refl)
 
 pub writer-3 :
+    -- stride -32,768
+    (write (raw 2 0 0 0 0 (negsuc 32767) noForm (form (pos 3) (pos 0 ∷ pos 0 ∷ pos 0 ∷ []) (pos 0 ∷ pos 0 ∷ pos 0 ∷ pos 0 ∷ [])) 0 ∷ anEnd ∷ []) 2 (hex "c9cacbcccdcecfd0d1d2d3d4d5d6d7d8d9dadbdcdddedfe0e1e2") ≡ notWritten 3 0 (hex "c9cacbcccdcecfd0d1d2d3d4d5d6d7d8d9dadbdcdddedfe0e1e2"))
+    -- skip 4,095
+    × (write (raw 6 0 0 3 0 (pos 1) noForm (form (pos 3) (pos 0 ∷ pos 0 ∷ pos 0 ∷ []) (pos 0 ∷ pos 0 ∷ pos 0 ∷ pos 0 ∷ [])) 4095 ∷ anEnd ∷ []) 2 (hex "c9cacbcccdcecfd0d1d2d3d4d5d6d7d8d9dadbdcdddedfe0e1e2e3e4") ≡ written 28 (hex "06030000000100000000000000000000030000000000000000ff0f03"))
+    -- skip 4,096
+    × (write (raw 6 0 0 3 0 (pos 1) noForm (form (pos 3) (pos 0 ∷ pos 0 ∷ pos 0 ∷ []) (pos 0 ∷ pos 0 ∷ pos 0 ∷ pos 0 ∷ [])) 4096 ∷ anEnd ∷ []) 2 (hex "c9cacbcccdcecfd0d1d2d3d4d5d6d7d8d9dadbdcdddedfe0e1e2e3e4") ≡ notWritten 3 0 (hex "c9cacbcccdcecfd0d1d2d3d4d5d6d7d8d9dadbdcdddedfe0e1e2e3e4"))
+    -- skip 65,535
+    × (write (raw 6 0 0 3 0 (pos 1) noForm (form (pos 3) (pos 0 ∷ pos 0 ∷ pos 0 ∷ []) (pos 0 ∷ pos 0 ∷ pos 0 ∷ pos 0 ∷ [])) 65535 ∷ anEnd ∷ []) 2 (hex "c9cacbcccdcecfd0d1d2d3d4d5d6d7d8d9dadbdcdddedfe0e1e2e3e4") ≡ notWritten 3 0 (hex "c9cacbcccdcecfd0d1d2d3d4d5d6d7d8d9dadbdcdddedfe0e1e2e3e4"))
+    -- skip 0
+    × (write (raw 6 0 0 3 0 (pos 1) noForm (form (pos 3) (pos 0 ∷ pos 0 ∷ pos 0 ∷ []) (pos 0 ∷ pos 0 ∷ pos 0 ∷ pos 0 ∷ [])) 0 ∷ anEnd ∷ []) 2 (hex "c9cacbcccdcecfd0d1d2d3d4d5d6d7d8d9dadbdcdddedfe0e1e2e3e4") ≡ written 28 (hex "06030000000100000000000000000000030000000000000000000003"))
+    -- skip equal to start
+    × (write (raw 6 0 0 3 0 (pos 1) noForm (form (pos 3) (pos 0 ∷ pos 0 ∷ pos 0 ∷ []) (pos 0 ∷ pos 0 ∷ pos 0 ∷ pos 0 ∷ [])) 3 ∷ anEnd ∷ []) 2 (hex "c9cacbcccdcecfd0d1d2d3d4d5d6d7d8d9dadbdcdddedfe0e1e2e3e4") ≡ written 28 (hex "06030000000100000000000000000000030000000000000000030003"))
+    -- kind 2 with a skip equal to start
+    × (write (raw 2 0 0 3 0 (pos 1) noForm (form (pos 3) (pos 0 ∷ pos 0 ∷ pos 0 ∷ []) (pos 0 ∷ pos 0 ∷ pos 0 ∷ pos 0 ∷ [])) 3 ∷ anEnd ∷ []) 2 (hex "c9cacbcccdcecfd0d1d2d3d4d5d6d7d8d9dadbdcdddedfe0e1e2") ≡ notWritten 3 0 (hex "c9cacbcccdcecfd0d1d2d3d4d5d6d7d8d9dadbdcdddedfe0e1e2"))
     -- start 4,096 of kind 6
-    (write (raw 6 0 0 4096 0 1 noForm (form (pos 3) (pos 0 ∷ pos 0 ∷ pos 0 ∷ []) (pos 0 ∷ pos 0 ∷ pos 0 ∷ pos 0 ∷ [])) 1 ∷ anEnd ∷ []) 2 (hex "c9cacbcccdcecfd0d1d2d3d4d5d6d7d8d9dadbdcdddedfe0e1e2e3e4") ≡ notWritten 3 0 (hex "c9cacbcccdcecfd0d1d2d3d4d5d6d7d8d9dadbdcdddedfe0e1e2e3e4"))
+    × (write (raw 6 0 0 4096 0 (pos 1) noForm (form (pos 3) (pos 0 ∷ pos 0 ∷ pos 0 ∷ []) (pos 0 ∷ pos 0 ∷ pos 0 ∷ pos 0 ∷ [])) 1 ∷ anEnd ∷ []) 2 (hex "c9cacbcccdcecfd0d1d2d3d4d5d6d7d8d9dadbdcdddedfe0e1e2e3e4") ≡ notWritten 3 0 (hex "c9cacbcccdcecfd0d1d2d3d4d5d6d7d8d9dadbdcdddedfe0e1e2e3e4"))
     -- stride 0 of kind 6
-    × (write (raw 6 0 0 3 0 0 noForm (form (pos 3) (pos 0 ∷ pos 0 ∷ pos 0 ∷ []) (pos 0 ∷ pos 0 ∷ pos 0 ∷ pos 0 ∷ [])) 1 ∷ anEnd ∷ []) 2 (hex "c9cacbcccdcecfd0d1d2d3d4d5d6d7d8d9dadbdcdddedfe0e1e2e3e4") ≡ notWritten 3 0 (hex "c9cacbcccdcecfd0d1d2d3d4d5d6d7d8d9dadbdcdddedfe0e1e2e3e4"))
+    × (write (raw 6 0 0 3 0 (pos 0) noForm (form (pos 3) (pos 0 ∷ pos 0 ∷ pos 0 ∷ []) (pos 0 ∷ pos 0 ∷ pos 0 ∷ pos 0 ∷ [])) 1 ∷ anEnd ∷ []) 2 (hex "c9cacbcccdcecfd0d1d2d3d4d5d6d7d8d9dadbdcdddedfe0e1e2e3e4") ≡ notWritten 3 0 (hex "c9cacbcccdcecfd0d1d2d3d4d5d6d7d8d9dadbdcdddedfe0e1e2e3e4"))
+    -- stride -1,000 of kind 6
+    × (write (raw 6 0 0 3 0 (negsuc 999) noForm (form (pos 3) (pos 0 ∷ pos 0 ∷ pos 0 ∷ []) (pos 0 ∷ pos 0 ∷ pos 0 ∷ pos 0 ∷ [])) 1 ∷ anEnd ∷ []) 2 (hex "c9cacbcccdcecfd0d1d2d3d4d5d6d7d8d9dadbdcdddedfe0e1e2e3e4") ≡ written 28 (hex "060300000018fc000000000000000000030000000000000000010003"))
+    -- stride -1,001 of kind 6
+    × (write (raw 6 0 0 3 0 (negsuc 1000) noForm (form (pos 3) (pos 0 ∷ pos 0 ∷ pos 0 ∷ []) (pos 0 ∷ pos 0 ∷ pos 0 ∷ pos 0 ∷ [])) 1 ∷ anEnd ∷ []) 2 (hex "c9cacbcccdcecfd0d1d2d3d4d5d6d7d8d9dadbdcdddedfe0e1e2e3e4") ≡ notWritten 3 0 (hex "c9cacbcccdcecfd0d1d2d3d4d5d6d7d8d9dadbdcdddedfe0e1e2e3e4"))
     -- lower form's own depth of kind 6
-    × (write (raw 6 0 0 3 0 1 (form (pos 0) (pos 1 ∷ pos 0 ∷ pos 0 ∷ []) (pos 0 ∷ pos 0 ∷ pos 0 ∷ pos 0 ∷ [])) (form (pos 3) (pos 0 ∷ pos 0 ∷ pos 0 ∷ []) (pos 0 ∷ pos 0 ∷ pos 0 ∷ pos 0 ∷ [])) 1 ∷ anEnd ∷ []) 2 (hex "c9cacbcccdcecfd0d1d2d3d4d5d6d7d8d9dadbdcdddedfe0e1e2e3e4") ≡ notWritten 3 0 (hex "c9cacbcccdcecfd0d1d2d3d4d5d6d7d8d9dadbdcdddedfe0e1e2e3e4"))
+    × (write (raw 6 0 0 3 0 (pos 1) (form (pos 0) (pos 1 ∷ pos 0 ∷ pos 0 ∷ []) (pos 0 ∷ pos 0 ∷ pos 0 ∷ pos 0 ∷ [])) (form (pos 3) (pos 0 ∷ pos 0 ∷ pos 0 ∷ []) (pos 0 ∷ pos 0 ∷ pos 0 ∷ pos 0 ∷ [])) 1 ∷ anEnd ∷ []) 2 (hex "c9cacbcccdcecfd0d1d2d3d4d5d6d7d8d9dadbdcdddedfe0e1e2e3e4") ≡ notWritten 3 0 (hex "c9cacbcccdcecfd0d1d2d3d4d5d6d7d8d9dadbdcdddedfe0e1e2e3e4"))
     -- lower form's own depth
-    × (write (raw 2 0 0 0 0 1 (form (pos 0) (pos 1 ∷ pos 0 ∷ pos 0 ∷ []) (pos 0 ∷ pos 0 ∷ pos 0 ∷ pos 0 ∷ [])) (form (pos 3) (pos 0 ∷ pos 0 ∷ pos 0 ∷ []) (pos 0 ∷ pos 0 ∷ pos 0 ∷ pos 0 ∷ [])) 0 ∷ anEnd ∷ []) 2 (hex "c9cacbcccdcecfd0d1d2d3d4d5d6d7d8d9dadbdcdddedfe0e1e2") ≡ notWritten 3 0 (hex "c9cacbcccdcecfd0d1d2d3d4d5d6d7d8d9dadbdcdddedfe0e1e2"))
+    × (write (raw 2 0 0 0 0 (pos 1) (form (pos 0) (pos 1 ∷ pos 0 ∷ pos 0 ∷ []) (pos 0 ∷ pos 0 ∷ pos 0 ∷ pos 0 ∷ [])) (form (pos 3) (pos 0 ∷ pos 0 ∷ pos 0 ∷ []) (pos 0 ∷ pos 0 ∷ pos 0 ∷ pos 0 ∷ [])) 0 ∷ anEnd ∷ []) 2 (hex "c9cacbcccdcecfd0d1d2d3d4d5d6d7d8d9dadbdcdddedfe0e1e2") ≡ notWritten 3 0 (hex "c9cacbcccdcecfd0d1d2d3d4d5d6d7d8d9dadbdcdddedfe0e1e2"))
     -- upper form's depth 3
-    × (write (raw 2 0 0 0 0 1 noForm (form (pos 0) (pos 0 ∷ pos 0 ∷ negsuc 0 ∷ []) (pos 0 ∷ pos 0 ∷ pos 0 ∷ pos 0 ∷ [])) 0 ∷ anEnd ∷ []) 2 (hex "c9cacbcccdcecfd0d1d2d3d4d5d6d7d8d9dadbdcdddedfe0e1e2") ≡ notWritten 3 0 (hex "c9cacbcccdcecfd0d1d2d3d4d5d6d7d8d9dadbdcdddedfe0e1e2"))
+    × (write (raw 2 0 0 0 0 (pos 1) noForm (form (pos 0) (pos 0 ∷ pos 0 ∷ negsuc 0 ∷ []) (pos 0 ∷ pos 0 ∷ pos 0 ∷ pos 0 ∷ [])) 0 ∷ anEnd ∷ []) 2 (hex "c9cacbcccdcecfd0d1d2d3d4d5d6d7d8d9dadbdcdddedfe0e1e2") ≡ notWritten 3 0 (hex "c9cacbcccdcecfd0d1d2d3d4d5d6d7d8d9dadbdcdddedfe0e1e2"))
     -- enclosing depth
-    × (write (aLoop ∷ raw 2 0 0 0 0 1 (form (pos 0) (negsuc 0 ∷ pos 0 ∷ pos 0 ∷ []) (pos 0 ∷ pos 0 ∷ pos 0 ∷ pos 0 ∷ [])) (form (pos 0) (pos 1 ∷ pos 0 ∷ pos 0 ∷ []) (pos 0 ∷ pos 0 ∷ pos 0 ∷ pos 0 ∷ [])) 0 ∷ anEnd ∷ anEnd ∷ []) 4 (hex "c9cacbcccdcecfd0d1d2d3d4d5d6d7d8d9dadbdcdddedfe0e1e2e3e4e5e6e7e8e9eaebecedeeeff0f1f2f3f4f5f6f7f8f9fac9ca") ≡ written 52 (hex "02000000000100000000000000000000030000000000000000020000000001000000ff0000000000000000010000000000000303"))
+    × (write (aLoop ∷ raw 2 0 0 0 0 (pos 1) (form (pos 0) (negsuc 0 ∷ pos 0 ∷ pos 0 ∷ []) (pos 0 ∷ pos 0 ∷ pos 0 ∷ pos 0 ∷ [])) (form (pos 0) (pos 1 ∷ pos 0 ∷ pos 0 ∷ []) (pos 0 ∷ pos 0 ∷ pos 0 ∷ pos 0 ∷ [])) 0 ∷ anEnd ∷ anEnd ∷ []) 4 (hex "c9cacbcccdcecfd0d1d2d3d4d5d6d7d8d9dadbdcdddedfe0e1e2e3e4e5e6e7e8e9eaebecedeeeff0f1f2f3f4f5f6f7f8f9fac9ca") ≡ written 52 (hex "02000000000100000000000000000000030000000000000000020000000001000000ff0000000000000000010000000000000303"))
     -- enclosing depth of kind 6, a record's offset after it
-    × (write (aSkipLoop ∷ raw 2 0 0 0 0 1 (form (pos 0) (negsuc 0 ∷ pos 0 ∷ pos 0 ∷ []) (pos 0 ∷ pos 0 ∷ pos 0 ∷ pos 0 ∷ [])) (form (pos 0) (pos 1 ∷ pos 0 ∷ pos 0 ∷ []) (pos 0 ∷ pos 0 ∷ pos 0 ∷ pos 0 ∷ [])) 0 ∷ raw 1 2 1 0 0 0 noForm noForm 0 ∷ []) 3 (hex "c9cacbcccdcecfd0d1d2d3d4d5d6d7d8d9dadbdcdddedfe0e1e2e3e4e5e6e7e8e9eaebecedeeeff0f1f2f3f4f5f6f7f8f9fac9cacbcccdcecfd0d1d2") ≡ notWritten 3 52 (hex "c9cacbcccdcecfd0d1d2d3d4d5d6d7d8d9dadbdcdddedfe0e1e2e3e4e5e6e7e8e9eaebecedeeeff0f1f2f3f4f5f6f7f8f9fac9cacbcccdcecfd0d1d2"))
+    × (write (aSkipLoop ∷ raw 2 0 0 0 0 (pos 1) (form (pos 0) (negsuc 0 ∷ pos 0 ∷ pos 0 ∷ []) (pos 0 ∷ pos 0 ∷ pos 0 ∷ pos 0 ∷ [])) (form (pos 0) (pos 1 ∷ pos 0 ∷ pos 0 ∷ []) (pos 0 ∷ pos 0 ∷ pos 0 ∷ pos 0 ∷ [])) 0 ∷ raw 1 2 1 0 0 (pos 0) noForm noForm 0 ∷ []) 3 (hex "c9cacbcccdcecfd0d1d2d3d4d5d6d7d8d9dadbdcdddedfe0e1e2e3e4e5e6e7e8e9eaebecedeeeff0f1f2f3f4f5f6f7f8f9fac9cacbcccdcecfd0d1d2") ≡ notWritten 3 52 (hex "c9cacbcccdcecfd0d1d2d3d4d5d6d7d8d9dadbdcdddedfe0e1e2e3e4e5e6e7e8e9eaebecedeeeff0f1f2f3f4f5f6f7f8f9fac9cacbcccdcecfd0d1d2"))
     -- own depth 2
-    × (write (aLoop ∷ raw 2 0 0 0 0 1 noForm (form (pos 0) (pos 0 ∷ pos 1 ∷ pos 0 ∷ []) (pos 0 ∷ pos 0 ∷ pos 0 ∷ pos 0 ∷ [])) 0 ∷ []) 2 (hex "c9cacbcccdcecfd0d1d2d3d4d5d6d7d8d9dadbdcdddedfe0e1e2e3e4e5e6") ≡ notWritten 3 25 (hex "c9cacbcccdcecfd0d1d2d3d4d5d6d7d8d9dadbdcdddedfe0e1e2e3e4e5e6"))
+    × (write (aLoop ∷ raw 2 0 0 0 0 (pos 1) noForm (form (pos 0) (pos 0 ∷ pos 1 ∷ pos 0 ∷ []) (pos 0 ∷ pos 0 ∷ pos 0 ∷ pos 0 ∷ [])) 0 ∷ []) 2 (hex "c9cacbcccdcecfd0d1d2d3d4d5d6d7d8d9dadbdcdddedfe0e1e2e3e4e5e6") ≡ notWritten 3 25 (hex "c9cacbcccdcecfd0d1d2d3d4d5d6d7d8d9dadbdcdddedfe0e1e2e3e4e5e6"))
     -- a choice is no depth
-    × (write (aChoice ∷ raw 2 0 0 0 0 1 noForm (form (pos 0) (pos 1 ∷ pos 0 ∷ pos 0 ∷ []) (pos 0 ∷ pos 0 ∷ pos 0 ∷ pos 0 ∷ [])) 0 ∷ []) 2 (hex "c9cacbcccdcecfd0d1d2d3d4d5d6d7d8d9dadbdcdddedfe0e1e2e3e4e5e6") ≡ notWritten 3 1 (hex "c9cacbcccdcecfd0d1d2d3d4d5d6d7d8d9dadbdcdddedfe0e1e2e3e4e5e6"))
+    × (write (aChoice ∷ raw 2 0 0 0 0 (pos 1) noForm (form (pos 0) (pos 1 ∷ pos 0 ∷ pos 0 ∷ []) (pos 0 ∷ pos 0 ∷ pos 0 ∷ pos 0 ∷ [])) 0 ∷ []) 2 (hex "c9cacbcccdcecfd0d1d2d3d4d5d6d7d8d9dadbdcdddedfe0e1e2e3e4e5e6") ≡ notWritten 3 1 (hex "c9cacbcccdcecfd0d1d2d3d4d5d6d7d8d9dadbdcdddedfe0e1e2e3e4e5e6"))
     -- work with a start
-    × (write (aChoice ∷ raw 1 1 2 1 0 0 noForm noForm 0 ∷ []) 2 (hex "c9cacbcc") ≡ notWritten 3 1 (hex "c9cacbcc"))
+    × (write (aChoice ∷ raw 1 1 2 1 0 (pos 0) noForm noForm 0 ∷ []) 2 (hex "c9cacbcc") ≡ notWritten 3 1 (hex "c9cacbcc"))
     -- work with a step
-    × (write (aChoice ∷ raw 1 1 2 0 1 0 noForm noForm 0 ∷ []) 2 (hex "c9cacbcc") ≡ notWritten 3 1 (hex "c9cacbcc"))
-    -- work with a stride
-    × (write (aChoice ∷ raw 1 1 2 0 0 1 noForm noForm 0 ∷ []) 2 (hex "c9cacbcc") ≡ notWritten 3 1 (hex "c9cacbcc"))
-    -- work with a lower
-    × (write (aChoice ∷ raw 1 1 2 0 0 0 (form (pos 1) (pos 0 ∷ pos 0 ∷ pos 0 ∷ []) (pos 0 ∷ pos 0 ∷ pos 0 ∷ pos 0 ∷ [])) noForm 0 ∷ []) 2 (hex "c9cacbcc") ≡ notWritten 3 1 (hex "c9cacbcc"))
-    -- work with a upper
-    × (write (aChoice ∷ raw 1 1 2 0 0 0 noForm (form (pos 0) (pos 0 ∷ pos 0 ∷ pos 0 ∷ []) (pos 0 ∷ pos 0 ∷ pos 0 ∷ negsuc 0 ∷ [])) 0 ∷ []) 2 (hex "c9cacbcc") ≡ notWritten 3 1 (hex "c9cacbcc"))
-    -- work with a skip
-    × (write (aChoice ∷ raw 1 1 2 0 0 0 noForm noForm 1 ∷ []) 2 (hex "c9cacbcc") ≡ notWritten 3 1 (hex "c9cacbcc"))
-    -- loop with a least
-    × (write (aChoice ∷ raw 2 1 0 0 0 1 noForm (form (pos 3) (pos 0 ∷ pos 0 ∷ pos 0 ∷ []) (pos 0 ∷ pos 0 ∷ pos 0 ∷ pos 0 ∷ [])) 0 ∷ []) 2 (hex "c9cacbcc") ≡ notWritten 3 1 (hex "c9cacbcc"))
-    -- loop with a most
-    × (write (aChoice ∷ raw 2 0 1 0 0 1 noForm (form (pos 3) (pos 0 ∷ pos 0 ∷ pos 0 ∷ []) (pos 0 ∷ pos 0 ∷ pos 0 ∷ pos 0 ∷ [])) 0 ∷ []) 2 (hex "c9cacbcc") ≡ notWritten 3 1 (hex "c9cacbcc"))
-    -- loop with a skip
-    × (write (aChoice ∷ raw 2 0 0 0 0 1 noForm (form (pos 3) (pos 0 ∷ pos 0 ∷ pos 0 ∷ []) (pos 0 ∷ pos 0 ∷ pos 0 ∷ pos 0 ∷ [])) 1 ∷ []) 2 (hex "c9cacbcc") ≡ notWritten 3 1 (hex "c9cacbcc"))
-    -- end with a least
-    × (write (aChoice ∷ raw 3 1 0 0 0 0 noForm noForm 0 ∷ []) 2 (hex "c9cacbcc") ≡ notWritten 3 1 (hex "c9cacbcc"))
-    -- end with a most
-    × (write (aChoice ∷ raw 3 0 1 0 0 0 noForm noForm 0 ∷ []) 2 (hex "c9cacbcc") ≡ notWritten 3 1 (hex "c9cacbcc"))
+    × (write (aChoice ∷ raw 1 1 2 0 1 (pos 0) noForm noForm 0 ∷ []) 2 (hex "c9cacbcc") ≡ notWritten 3 1 (hex "c9cacbcc"))
 unfolding computes
 writer-3 = (refl, refl, refl, refl, refl, refl, refl, refl, refl, refl, refl, refl, refl, refl, refl, refl, refl, refl, refl, refl)
 
 pub writer-4 :
+    -- work with a stride
+    (write (aChoice ∷ raw 1 1 2 0 0 (pos 1) noForm noForm 0 ∷ []) 2 (hex "c9cacbcc") ≡ notWritten 3 1 (hex "c9cacbcc"))
+    -- work with a lower
+    × (write (aChoice ∷ raw 1 1 2 0 0 (pos 0) (form (pos 1) (pos 0 ∷ pos 0 ∷ pos 0 ∷ []) (pos 0 ∷ pos 0 ∷ pos 0 ∷ pos 0 ∷ [])) noForm 0 ∷ []) 2 (hex "c9cacbcc") ≡ notWritten 3 1 (hex "c9cacbcc"))
+    -- work with a upper
+    × (write (aChoice ∷ raw 1 1 2 0 0 (pos 0) noForm (form (pos 0) (pos 0 ∷ pos 0 ∷ pos 0 ∷ []) (pos 0 ∷ pos 0 ∷ pos 0 ∷ negsuc 0 ∷ [])) 0 ∷ []) 2 (hex "c9cacbcc") ≡ notWritten 3 1 (hex "c9cacbcc"))
+    -- work with a skip
+    × (write (aChoice ∷ raw 1 1 2 0 0 (pos 0) noForm noForm 1 ∷ []) 2 (hex "c9cacbcc") ≡ notWritten 3 1 (hex "c9cacbcc"))
+    -- work with a stride of -1
+    × (write (aChoice ∷ raw 1 1 2 0 0 (negsuc 0) noForm noForm 0 ∷ []) 2 (hex "c9cacbcc") ≡ notWritten 3 1 (hex "c9cacbcc"))
+    -- loop with a least
+    × (write (aChoice ∷ raw 2 1 0 0 0 (pos 1) noForm (form (pos 3) (pos 0 ∷ pos 0 ∷ pos 0 ∷ []) (pos 0 ∷ pos 0 ∷ pos 0 ∷ pos 0 ∷ [])) 0 ∷ []) 2 (hex "c9cacbcc") ≡ notWritten 3 1 (hex "c9cacbcc"))
+    -- loop with a most
+    × (write (aChoice ∷ raw 2 0 1 0 0 (pos 1) noForm (form (pos 3) (pos 0 ∷ pos 0 ∷ pos 0 ∷ []) (pos 0 ∷ pos 0 ∷ pos 0 ∷ pos 0 ∷ [])) 0 ∷ []) 2 (hex "c9cacbcc") ≡ notWritten 3 1 (hex "c9cacbcc"))
+    -- loop with a skip
+    × (write (aChoice ∷ raw 2 0 0 0 0 (pos 1) noForm (form (pos 3) (pos 0 ∷ pos 0 ∷ pos 0 ∷ []) (pos 0 ∷ pos 0 ∷ pos 0 ∷ pos 0 ∷ [])) 1 ∷ []) 2 (hex "c9cacbcc") ≡ notWritten 3 1 (hex "c9cacbcc"))
+    -- end with a least
+    × (write (aChoice ∷ raw 3 1 0 0 0 (pos 0) noForm noForm 0 ∷ []) 2 (hex "c9cacbcc") ≡ notWritten 3 1 (hex "c9cacbcc"))
+    -- end with a most
+    × (write (aChoice ∷ raw 3 0 1 0 0 (pos 0) noForm noForm 0 ∷ []) 2 (hex "c9cacbcc") ≡ notWritten 3 1 (hex "c9cacbcc"))
     -- end with a start
-    (write (aChoice ∷ raw 3 0 0 1 0 0 noForm noForm 0 ∷ []) 2 (hex "c9cacbcc") ≡ notWritten 3 1 (hex "c9cacbcc"))
+    × (write (aChoice ∷ raw 3 0 0 1 0 (pos 0) noForm noForm 0 ∷ []) 2 (hex "c9cacbcc") ≡ notWritten 3 1 (hex "c9cacbcc"))
     -- end with a step
-    × (write (aChoice ∷ raw 3 0 0 0 1 0 noForm noForm 0 ∷ []) 2 (hex "c9cacbcc") ≡ notWritten 3 1 (hex "c9cacbcc"))
+    × (write (aChoice ∷ raw 3 0 0 0 1 (pos 0) noForm noForm 0 ∷ []) 2 (hex "c9cacbcc") ≡ notWritten 3 1 (hex "c9cacbcc"))
     -- end with a stride
-    × (write (aChoice ∷ raw 3 0 0 0 0 1 noForm noForm 0 ∷ []) 2 (hex "c9cacbcc") ≡ notWritten 3 1 (hex "c9cacbcc"))
+    × (write (aChoice ∷ raw 3 0 0 0 0 (pos 1) noForm noForm 0 ∷ []) 2 (hex "c9cacbcc") ≡ notWritten 3 1 (hex "c9cacbcc"))
     -- end with a lower
-    × (write (aChoice ∷ raw 3 0 0 0 0 0 (form (pos 1) (pos 0 ∷ pos 0 ∷ pos 0 ∷ []) (pos 0 ∷ pos 0 ∷ pos 0 ∷ pos 0 ∷ [])) noForm 0 ∷ []) 2 (hex "c9cacbcc") ≡ notWritten 3 1 (hex "c9cacbcc"))
+    × (write (aChoice ∷ raw 3 0 0 0 0 (pos 0) (form (pos 1) (pos 0 ∷ pos 0 ∷ pos 0 ∷ []) (pos 0 ∷ pos 0 ∷ pos 0 ∷ pos 0 ∷ [])) noForm 0 ∷ []) 2 (hex "c9cacbcc") ≡ notWritten 3 1 (hex "c9cacbcc"))
     -- end with a upper
-    × (write (aChoice ∷ raw 3 0 0 0 0 0 noForm (form (pos 0) (pos 0 ∷ pos 0 ∷ pos 0 ∷ []) (pos 0 ∷ pos 0 ∷ pos 0 ∷ negsuc 0 ∷ [])) 0 ∷ []) 2 (hex "c9cacbcc") ≡ notWritten 3 1 (hex "c9cacbcc"))
+    × (write (aChoice ∷ raw 3 0 0 0 0 (pos 0) noForm (form (pos 0) (pos 0 ∷ pos 0 ∷ pos 0 ∷ []) (pos 0 ∷ pos 0 ∷ pos 0 ∷ negsuc 0 ∷ [])) 0 ∷ []) 2 (hex "c9cacbcc") ≡ notWritten 3 1 (hex "c9cacbcc"))
     -- end with a skip
-    × (write (aChoice ∷ raw 3 0 0 0 0 0 noForm noForm 1 ∷ []) 2 (hex "c9cacbcc") ≡ notWritten 3 1 (hex "c9cacbcc"))
+    × (write (aChoice ∷ raw 3 0 0 0 0 (pos 0) noForm noForm 1 ∷ []) 2 (hex "c9cacbcc") ≡ notWritten 3 1 (hex "c9cacbcc"))
+    -- end with a stride of -1
+    × (write (aChoice ∷ raw 3 0 0 0 0 (negsuc 0) noForm noForm 0 ∷ []) 2 (hex "c9cacbcc") ≡ notWritten 3 1 (hex "c9cacbcc"))
     -- choice with a least
-    × (write (aChoice ∷ raw 4 1 0 0 0 0 noForm noForm 0 ∷ []) 2 (hex "c9cacbcc") ≡ notWritten 3 1 (hex "c9cacbcc"))
+    × (write (aChoice ∷ raw 4 1 0 0 0 (pos 0) noForm noForm 0 ∷ []) 2 (hex "c9cacbcc") ≡ notWritten 3 1 (hex "c9cacbcc"))
     -- choice with a most
-    × (write (aChoice ∷ raw 4 0 1 0 0 0 noForm noForm 0 ∷ []) 2 (hex "c9cacbcc") ≡ notWritten 3 1 (hex "c9cacbcc"))
+    × (write (aChoice ∷ raw 4 0 1 0 0 (pos 0) noForm noForm 0 ∷ []) 2 (hex "c9cacbcc") ≡ notWritten 3 1 (hex "c9cacbcc"))
     -- choice with a start
-    × (write (aChoice ∷ raw 4 0 0 1 0 0 noForm noForm 0 ∷ []) 2 (hex "c9cacbcc") ≡ notWritten 3 1 (hex "c9cacbcc"))
-    -- choice with a step
-    × (write (aChoice ∷ raw 4 0 0 0 1 0 noForm noForm 0 ∷ []) 2 (hex "c9cacbcc") ≡ notWritten 3 1 (hex "c9cacbcc"))
-    -- choice with a stride
-    × (write (aChoice ∷ raw 4 0 0 0 0 1 noForm noForm 0 ∷ []) 2 (hex "c9cacbcc") ≡ notWritten 3 1 (hex "c9cacbcc"))
-    -- choice with a lower
-    × (write (aChoice ∷ raw 4 0 0 0 0 0 (form (pos 1) (pos 0 ∷ pos 0 ∷ pos 0 ∷ []) (pos 0 ∷ pos 0 ∷ pos 0 ∷ pos 0 ∷ [])) noForm 0 ∷ []) 2 (hex "c9cacbcc") ≡ notWritten 3 1 (hex "c9cacbcc"))
-    -- choice with a upper
-    × (write (aChoice ∷ raw 4 0 0 0 0 0 noForm (form (pos 0) (pos 0 ∷ pos 0 ∷ pos 0 ∷ []) (pos 0 ∷ pos 0 ∷ pos 0 ∷ negsuc 0 ∷ [])) 0 ∷ []) 2 (hex "c9cacbcc") ≡ notWritten 3 1 (hex "c9cacbcc"))
-    -- choice with a skip
-    × (write (aChoice ∷ raw 4 0 0 0 0 0 noForm noForm 1 ∷ []) 2 (hex "c9cacbcc") ≡ notWritten 3 1 (hex "c9cacbcc"))
-    -- next arm with a least
-    × (write (aChoice ∷ raw 5 1 0 0 0 0 noForm noForm 0 ∷ []) 2 (hex "c9cacbcc") ≡ notWritten 3 1 (hex "c9cacbcc"))
-    -- next arm with a most
-    × (write (aChoice ∷ raw 5 0 1 0 0 0 noForm noForm 0 ∷ []) 2 (hex "c9cacbcc") ≡ notWritten 3 1 (hex "c9cacbcc"))
-    -- next arm with a start
-    × (write (aChoice ∷ raw 5 0 0 1 0 0 noForm noForm 0 ∷ []) 2 (hex "c9cacbcc") ≡ notWritten 3 1 (hex "c9cacbcc"))
-    -- next arm with a step
-    × (write (aChoice ∷ raw 5 0 0 0 1 0 noForm noForm 0 ∷ []) 2 (hex "c9cacbcc") ≡ notWritten 3 1 (hex "c9cacbcc"))
-    -- next arm with a stride
-    × (write (aChoice ∷ raw 5 0 0 0 0 1 noForm noForm 0 ∷ []) 2 (hex "c9cacbcc") ≡ notWritten 3 1 (hex "c9cacbcc"))
-    -- next arm with a lower
-    × (write (aChoice ∷ raw 5 0 0 0 0 0 (form (pos 1) (pos 0 ∷ pos 0 ∷ pos 0 ∷ []) (pos 0 ∷ pos 0 ∷ pos 0 ∷ pos 0 ∷ [])) noForm 0 ∷ []) 2 (hex "c9cacbcc") ≡ notWritten 3 1 (hex "c9cacbcc"))
+    × (write (aChoice ∷ raw 4 0 0 1 0 (pos 0) noForm noForm 0 ∷ []) 2 (hex "c9cacbcc") ≡ notWritten 3 1 (hex "c9cacbcc"))
 unfolding computes
 writer-4 = (refl, refl, refl, refl, refl, refl, refl, refl, refl, refl, refl, refl, refl, refl, refl, refl, refl, refl, refl, refl)
 
 pub writer-5 :
+    -- choice with a step
+    (write (aChoice ∷ raw 4 0 0 0 1 (pos 0) noForm noForm 0 ∷ []) 2 (hex "c9cacbcc") ≡ notWritten 3 1 (hex "c9cacbcc"))
+    -- choice with a stride
+    × (write (aChoice ∷ raw 4 0 0 0 0 (pos 1) noForm noForm 0 ∷ []) 2 (hex "c9cacbcc") ≡ notWritten 3 1 (hex "c9cacbcc"))
+    -- choice with a lower
+    × (write (aChoice ∷ raw 4 0 0 0 0 (pos 0) (form (pos 1) (pos 0 ∷ pos 0 ∷ pos 0 ∷ []) (pos 0 ∷ pos 0 ∷ pos 0 ∷ pos 0 ∷ [])) noForm 0 ∷ []) 2 (hex "c9cacbcc") ≡ notWritten 3 1 (hex "c9cacbcc"))
+    -- choice with a upper
+    × (write (aChoice ∷ raw 4 0 0 0 0 (pos 0) noForm (form (pos 0) (pos 0 ∷ pos 0 ∷ pos 0 ∷ []) (pos 0 ∷ pos 0 ∷ pos 0 ∷ negsuc 0 ∷ [])) 0 ∷ []) 2 (hex "c9cacbcc") ≡ notWritten 3 1 (hex "c9cacbcc"))
+    -- choice with a skip
+    × (write (aChoice ∷ raw 4 0 0 0 0 (pos 0) noForm noForm 1 ∷ []) 2 (hex "c9cacbcc") ≡ notWritten 3 1 (hex "c9cacbcc"))
+    -- choice with a stride of -1
+    × (write (aChoice ∷ raw 4 0 0 0 0 (negsuc 0) noForm noForm 0 ∷ []) 2 (hex "c9cacbcc") ≡ notWritten 3 1 (hex "c9cacbcc"))
+    -- next arm with a least
+    × (write (aChoice ∷ raw 5 1 0 0 0 (pos 0) noForm noForm 0 ∷ []) 2 (hex "c9cacbcc") ≡ notWritten 3 1 (hex "c9cacbcc"))
+    -- next arm with a most
+    × (write (aChoice ∷ raw 5 0 1 0 0 (pos 0) noForm noForm 0 ∷ []) 2 (hex "c9cacbcc") ≡ notWritten 3 1 (hex "c9cacbcc"))
+    -- next arm with a start
+    × (write (aChoice ∷ raw 5 0 0 1 0 (pos 0) noForm noForm 0 ∷ []) 2 (hex "c9cacbcc") ≡ notWritten 3 1 (hex "c9cacbcc"))
+    -- next arm with a step
+    × (write (aChoice ∷ raw 5 0 0 0 1 (pos 0) noForm noForm 0 ∷ []) 2 (hex "c9cacbcc") ≡ notWritten 3 1 (hex "c9cacbcc"))
+    -- next arm with a stride
+    × (write (aChoice ∷ raw 5 0 0 0 0 (pos 1) noForm noForm 0 ∷ []) 2 (hex "c9cacbcc") ≡ notWritten 3 1 (hex "c9cacbcc"))
+    -- next arm with a lower
+    × (write (aChoice ∷ raw 5 0 0 0 0 (pos 0) (form (pos 1) (pos 0 ∷ pos 0 ∷ pos 0 ∷ []) (pos 0 ∷ pos 0 ∷ pos 0 ∷ pos 0 ∷ [])) noForm 0 ∷ []) 2 (hex "c9cacbcc") ≡ notWritten 3 1 (hex "c9cacbcc"))
     -- next arm with a upper
-    (write (aChoice ∷ raw 5 0 0 0 0 0 noForm (form (pos 0) (pos 0 ∷ pos 0 ∷ pos 0 ∷ []) (pos 0 ∷ pos 0 ∷ pos 0 ∷ negsuc 0 ∷ [])) 0 ∷ []) 2 (hex "c9cacbcc") ≡ notWritten 3 1 (hex "c9cacbcc"))
+    × (write (aChoice ∷ raw 5 0 0 0 0 (pos 0) noForm (form (pos 0) (pos 0 ∷ pos 0 ∷ pos 0 ∷ []) (pos 0 ∷ pos 0 ∷ pos 0 ∷ negsuc 0 ∷ [])) 0 ∷ []) 2 (hex "c9cacbcc") ≡ notWritten 3 1 (hex "c9cacbcc"))
     -- next arm with a skip
-    × (write (aChoice ∷ raw 5 0 0 0 0 0 noForm noForm 1 ∷ []) 2 (hex "c9cacbcc") ≡ notWritten 3 1 (hex "c9cacbcc"))
+    × (write (aChoice ∷ raw 5 0 0 0 0 (pos 0) noForm noForm 1 ∷ []) 2 (hex "c9cacbcc") ≡ notWritten 3 1 (hex "c9cacbcc"))
+    -- next arm with a stride of -1
+    × (write (aChoice ∷ raw 5 0 0 0 0 (negsuc 0) noForm noForm 0 ∷ []) 2 (hex "c9cacbcc") ≡ notWritten 3 1 (hex "c9cacbcc"))
     -- loop of kind 6 with a least
-    × (write (aChoice ∷ raw 6 1 0 3 0 1 noForm (form (pos 3) (pos 0 ∷ pos 0 ∷ pos 0 ∷ []) (pos 0 ∷ pos 0 ∷ pos 0 ∷ pos 0 ∷ [])) 1 ∷ []) 2 (hex "c9cacbcc") ≡ notWritten 3 1 (hex "c9cacbcc"))
+    × (write (aChoice ∷ raw 6 1 0 3 0 (pos 1) noForm (form (pos 3) (pos 0 ∷ pos 0 ∷ pos 0 ∷ []) (pos 0 ∷ pos 0 ∷ pos 0 ∷ pos 0 ∷ [])) 1 ∷ []) 2 (hex "c9cacbcc") ≡ notWritten 3 1 (hex "c9cacbcc"))
     -- loop of kind 6 with a most
-    × (write (aChoice ∷ raw 6 0 1 3 0 1 noForm (form (pos 3) (pos 0 ∷ pos 0 ∷ pos 0 ∷ []) (pos 0 ∷ pos 0 ∷ pos 0 ∷ pos 0 ∷ [])) 1 ∷ []) 2 (hex "c9cacbcc") ≡ notWritten 3 1 (hex "c9cacbcc"))
+    × (write (aChoice ∷ raw 6 0 1 3 0 (pos 1) noForm (form (pos 3) (pos 0 ∷ pos 0 ∷ pos 0 ∷ []) (pos 0 ∷ pos 0 ∷ pos 0 ∷ pos 0 ∷ [])) 1 ∷ []) 2 (hex "c9cacbcc") ≡ notWritten 3 1 (hex "c9cacbcc"))
     -- end with a factor
-    × (write (aChoice ∷ raw 3 0 0 0 0 0 (form (pos 0) (pos 1 ∷ pos 0 ∷ pos 0 ∷ []) (pos 0 ∷ pos 0 ∷ pos 0 ∷ pos 0 ∷ [])) noForm 0 ∷ []) 2 (hex "c9cacbcc") ≡ notWritten 3 1 (hex "c9cacbcc"))
+    × (write (aChoice ∷ raw 3 0 0 0 0 (pos 0) (form (pos 0) (pos 1 ∷ pos 0 ∷ pos 0 ∷ []) (pos 0 ∷ pos 0 ∷ pos 0 ∷ pos 0 ∷ [])) noForm 0 ∷ []) 2 (hex "c9cacbcc") ≡ notWritten 3 1 (hex "c9cacbcc"))
     -- end with a factor
-    × (write (aChoice ∷ raw 3 0 0 0 0 0 (form (pos 0) (pos 0 ∷ pos 1 ∷ pos 0 ∷ []) (pos 0 ∷ pos 0 ∷ pos 0 ∷ pos 0 ∷ [])) noForm 0 ∷ []) 2 (hex "c9cacbcc") ≡ notWritten 3 1 (hex "c9cacbcc"))
+    × (write (aChoice ∷ raw 3 0 0 0 0 (pos 0) (form (pos 0) (pos 0 ∷ pos 1 ∷ pos 0 ∷ []) (pos 0 ∷ pos 0 ∷ pos 0 ∷ pos 0 ∷ [])) noForm 0 ∷ []) 2 (hex "c9cacbcc") ≡ notWritten 3 1 (hex "c9cacbcc"))
     -- end with a factor
-    × (write (aChoice ∷ raw 3 0 0 0 0 0 (form (pos 0) (pos 0 ∷ pos 0 ∷ negsuc 0 ∷ []) (pos 0 ∷ pos 0 ∷ pos 0 ∷ pos 0 ∷ [])) noForm 0 ∷ []) 2 (hex "c9cacbcc") ≡ notWritten 3 1 (hex "c9cacbcc"))
+    × (write (aChoice ∷ raw 3 0 0 0 0 (pos 0) (form (pos 0) (pos 0 ∷ pos 0 ∷ negsuc 0 ∷ []) (pos 0 ∷ pos 0 ∷ pos 0 ∷ pos 0 ∷ [])) noForm 0 ∷ []) 2 (hex "c9cacbcc") ≡ notWritten 3 1 (hex "c9cacbcc"))
+unfolding computes
+writer-5 = (refl, refl, refl, refl, refl, refl, refl, refl, refl, refl, refl, refl, refl, refl, refl, refl, refl, refl, refl, refl)
+
+pub writer-6 :
     -- end with a factor
-    × (write (aChoice ∷ raw 3 0 0 0 0 0 (form (pos 0) (pos 0 ∷ pos 0 ∷ pos 0 ∷ []) (pos 1 ∷ pos 0 ∷ pos 0 ∷ pos 0 ∷ [])) noForm 0 ∷ []) 2 (hex "c9cacbcc") ≡ notWritten 3 1 (hex "c9cacbcc"))
+    (write (aChoice ∷ raw 3 0 0 0 0 (pos 0) (form (pos 0) (pos 0 ∷ pos 0 ∷ pos 0 ∷ []) (pos 1 ∷ pos 0 ∷ pos 0 ∷ pos 0 ∷ [])) noForm 0 ∷ []) 2 (hex "c9cacbcc") ≡ notWritten 3 1 (hex "c9cacbcc"))
     -- end with a factor
-    × (write (aChoice ∷ raw 3 0 0 0 0 0 (form (pos 0) (pos 0 ∷ pos 0 ∷ pos 0 ∷ []) (pos 0 ∷ pos 1 ∷ pos 0 ∷ pos 0 ∷ [])) noForm 0 ∷ []) 2 (hex "c9cacbcc") ≡ notWritten 3 1 (hex "c9cacbcc"))
+    × (write (aChoice ∷ raw 3 0 0 0 0 (pos 0) (form (pos 0) (pos 0 ∷ pos 0 ∷ pos 0 ∷ []) (pos 0 ∷ pos 1 ∷ pos 0 ∷ pos 0 ∷ [])) noForm 0 ∷ []) 2 (hex "c9cacbcc") ≡ notWritten 3 1 (hex "c9cacbcc"))
     -- end with a factor
-    × (write (aChoice ∷ raw 3 0 0 0 0 0 (form (pos 0) (pos 0 ∷ pos 0 ∷ pos 0 ∷ []) (pos 0 ∷ pos 0 ∷ pos 1 ∷ pos 0 ∷ [])) noForm 0 ∷ []) 2 (hex "c9cacbcc") ≡ notWritten 3 1 (hex "c9cacbcc"))
+    × (write (aChoice ∷ raw 3 0 0 0 0 (pos 0) (form (pos 0) (pos 0 ∷ pos 0 ∷ pos 0 ∷ []) (pos 0 ∷ pos 0 ∷ pos 1 ∷ pos 0 ∷ [])) noForm 0 ∷ []) 2 (hex "c9cacbcc") ≡ notWritten 3 1 (hex "c9cacbcc"))
     -- end with nothing open
     × (write (anEnd ∷ []) 1 (hex "c9cacbcc") ≡ notWritten 5 0 (hex "c9cacbcc"))
     -- end with nothing open, later
@@ -252,17 +282,13 @@ pub writer-5 :
     -- next arm in a loop of kind 6
     × (write (aChoice ∷ aSkipLoop ∷ aNextArm ∷ []) 3 (hex "c9cacbcc") ≡ notWritten 5 28 (hex "c9cacbcc"))
     -- 3 before 5 at the fifth depth
-    × (write (aLoop ∷ aLoop ∷ aLoop ∷ aLoop ∷ raw 2 0 0 0 0 0 noForm (form (pos 3) (pos 0 ∷ pos 0 ∷ pos 0 ∷ []) (pos 0 ∷ pos 0 ∷ pos 0 ∷ pos 0 ∷ [])) 0 ∷ []) 5 (hex "c9cacbcc") ≡ notWritten 3 100 (hex "c9cacbcc"))
+    × (write (aLoop ∷ aLoop ∷ aLoop ∷ aLoop ∷ raw 2 0 0 0 0 (pos 0) noForm (form (pos 3) (pos 0 ∷ pos 0 ∷ pos 0 ∷ []) (pos 0 ∷ pos 0 ∷ pos 0 ∷ pos 0 ∷ [])) 0 ∷ []) 5 (hex "c9cacbcc") ≡ notWritten 3 100 (hex "c9cacbcc"))
     -- fifth depth, factors of all three depths
-    × (write (aLoop ∷ aLoop ∷ aLoop ∷ aLoop ∷ raw 2 0 0 0 0 1 (form (pos 0) (pos 1 ∷ pos 1 ∷ pos 1 ∷ []) (pos 0 ∷ pos 0 ∷ pos 0 ∷ pos 0 ∷ [])) noForm 0 ∷ []) 5 (hex "c9cacbcc") ≡ notWritten 5 100 (hex "c9cacbcc"))
+    × (write (aLoop ∷ aLoop ∷ aLoop ∷ aLoop ∷ raw 2 0 0 0 0 (pos 1) (form (pos 0) (pos 1 ∷ pos 1 ∷ pos 1 ∷ []) (pos 0 ∷ pos 0 ∷ pos 0 ∷ pos 0 ∷ [])) noForm 0 ∷ []) 5 (hex "c9cacbcc") ≡ notWritten 5 100 (hex "c9cacbcc"))
     -- ninth open record, a choice
     × (write (aChoice ∷ aChoice ∷ aChoice ∷ aChoice ∷ aChoice ∷ aChoice ∷ aChoice ∷ aChoice ∷ aChoice ∷ []) 9 (hex "c9cacbcc") ≡ notWritten 5 8 (hex "c9cacbcc"))
-unfolding computes
-writer-5 = (refl, refl, refl, refl, refl, refl, refl, refl, refl, refl, refl, refl, refl, refl, refl, refl, refl, refl, refl, refl)
-
-pub writer-6 :
     -- ninth open record, a loop
-    (write (aChoice ∷ aChoice ∷ aChoice ∷ aChoice ∷ aChoice ∷ aChoice ∷ aChoice ∷ aChoice ∷ aLoop ∷ []) 9 (hex "c9cacbcc") ≡ notWritten 5 8 (hex "c9cacbcc"))
+    × (write (aChoice ∷ aChoice ∷ aChoice ∷ aChoice ∷ aChoice ∷ aChoice ∷ aChoice ∷ aChoice ∷ aLoop ∷ []) 9 (hex "c9cacbcc") ≡ notWritten 5 8 (hex "c9cacbcc"))
     -- ninth open record, a loop of kind 6
     × (write (aChoice ∷ aChoice ∷ aChoice ∷ aChoice ∷ aChoice ∷ aChoice ∷ aChoice ∷ aChoice ∷ aSkipLoop ∷ []) 9 (hex "c9cacbcc") ≡ notWritten 5 8 (hex "c9cacbcc"))
     -- eight open
@@ -272,13 +298,17 @@ pub writer-6 :
     -- a loop open at the end
     × (write (aLoop ∷ aWork ∷ []) 2 (hex "c9cacbcccdcecfd0d1d2d3d4d5d6d7d8d9dadbdcdddedfe0e1e2e3e4e5e6e7e8e9eaebecedeeeff0") ≡ notWritten 5 30 (hex "c9cacbcccdcecfd0d1d2d3d4d5d6d7d8d9dadbdcdddedfe0e1e2e3e4e5e6e7e8e9eaebecedeeeff0"))
     -- 3 before 5
-    × (write (raw 3 0 1 0 0 0 noForm noForm 0 ∷ []) 1 (hex "c9cacbcc") ≡ notWritten 3 0 (hex "c9cacbcc"))
+    × (write (raw 3 0 1 0 0 (pos 0) noForm noForm 0 ∷ []) 1 (hex "c9cacbcc") ≡ notWritten 3 0 (hex "c9cacbcc"))
     -- 5 of the first before 2 of the second
-    × (write (anEnd ∷ raw 9 0 0 0 0 0 noForm noForm 0 ∷ []) 2 (hex "c9cacbcc") ≡ notWritten 5 0 (hex "c9cacbcc"))
-    -- open at the end before 9
-    × (write (aChoice ∷ []) 1 [] ≡ notWritten 5 1 [])
+    × (write (anEnd ∷ raw 9 0 0 0 0 (pos 0) noForm noForm 0 ∷ []) 2 (hex "c9cacbcc") ≡ notWritten 5 0 (hex "c9cacbcc"))
 unfolding computes
-writer-6 = (refl, refl, refl, refl, refl, refl, refl, refl)
+writer-6 = (refl, refl, refl, refl, refl, refl, refl, refl, refl, refl, refl, refl, refl, refl, refl, refl, refl, refl, refl, refl)
+
+pub writer-7 :
+    -- open at the end before 9
+    (write (aChoice ∷ []) 1 [] ≡ notWritten 5 1 [])
+unfolding computes
+writer-7 = refl
 
 pub c-call-1 :
     -- area of 24 bytes
@@ -325,12 +355,16 @@ unfolding computes
 c-call-1 = (refl, refl, refl, refl, refl, refl, refl, refl, refl, refl, refl, refl, refl, refl, refl, refl, refl, refl, refl, refl)
 
 pub c-call-2 :
+    -- counting down
+    (cCall (hex "0200000000ffff0900000000000000000000000000000000000200000000feff00000100000000000000000000000000000001010002000303") zeroParameters 20 (hex "65666768696a6b6c6d6e6f707172737475767778797a7b7c") ≡ called 0 (hex "1e000000000000003c000000000000001400000000000000"))
+    -- counting down, stride -1,001
+    × (cCall (hex "020000000017fc01000000000000000000000000000000000003") zeroParameters 1 (hex "65666768696a6b6c6d6e6f707172737475767778797a7b7c") ≡ called 3 (hex "65666768696a6b6c6d6e6f707172737475767778797a7b7c"))
     -- 20 visits, budget 20
-    (cCall (hex "020000000001000000000000000000000900000000000000000200000000020000000000000000000000000100000000000001010001000303") zeroParameters 20 (hex "65666768696a6b6c6d6e6f707172737475767778797a7b7c") ≡ called 0 (hex "1e000000000000001e000000000000001400000000000000"))
+    × (cCall (hex "020000000001000000000000000000000900000000000000000200000000020000000000000000000000000100000000000001010001000303") zeroParameters 20 (hex "65666768696a6b6c6d6e6f707172737475767778797a7b7c") ≡ called 0 (hex "1e000000000000001e000000000000001400000000000000"))
     -- 20 visits, budget 19
     × (cCall (hex "020000000001000000000000000000000900000000000000000200000000020000000000000000000000000100000000000001010001000303") zeroParameters 19 (hex "65666768696a6b6c6d6e6f707172737475767778797a7b7c") ≡ called 8 (hex "65666768696a6b6c6d6e6f707172737475767778797a7b7c"))
 unfolding computes
-c-call-2 = (refl, refl)
+c-call-2 = (refl, refl, refl, refl)
 
 pub record-reader-1 :
     -- choice
@@ -427,6 +461,8 @@ pub program-text-1 :
     × (programText (hex "00000000000000006400000006050009000100000000000000000000ffff000000000000000200010300050003") ≡ (text "best 2 worst 2 visits 0\nloop 0 closed ceiling 0\n"))
     -- walked, since skip and start differ
     × (programText (hex "0000000000000000640000000200000000010000000000000000000003000000000000000006050000000100000000000000000000ffff01000000000000010001030005000303") ≡ (text "best 34 worst 46 visits 7\nloop 0 walked ceiling 4\nloop 25 may fall below no trips\nloop 25 closed ceiling 3\n"))
+    -- counting down, walked
+    × (programText (hex "0000000000000000640000000200000000ffff0900000000000000000000000000000000000200000000feff00000100000000000000000000000000000001010002000303") ≡ (text "best 30 worst 60 visits 20\nloop 0 walked ceiling 10\nloop 25 is uneven in loop 0\nloop 25 closed ceiling 5\n"))
     -- budget 0
     × (programText (hex "0000000000000000000000000200000000010000000000000000000009000000000000000002000000000100000000000000000000ffff0100000000000001010001000303") ≡ (text "refused 7 at 0\n"))
     -- budget's third byte
@@ -444,7 +480,7 @@ pub program-text-1 :
     -- a large figure
     × (programText (hex "0000000000000000640000000101002c0102ff0fff0f0100000000000000000000ff0700000000000000010000ff0f03") ≡ (text "best 8390656 worst 16777515 visits 1\nloop 5 closed ceiling 2048\n"))
 unfolding computes
-program-text-1 = (refl, refl, refl, refl, refl, refl, refl, refl, refl, refl, refl, refl, refl, refl, refl, refl)
+program-text-1 = (refl, refl, refl, refl, refl, refl, refl, refl, refl, refl, refl, refl, refl, refl, refl, refl, refl)
 
 pub text-call-1 :
     -- buffer as long as the text
@@ -575,6 +611,14 @@ pub converter-1 :
     × (withSkips [] [] ≡ written 0 [])
     -- to kind 6, empty sheet, the buffer stays
     × (withSkips [] (hex "c9ca") ≡ written 0 (hex "c9ca"))
+    -- to kind 6, a loop that counts down
+    × (withSkips (hex "0203000000fffc03000000000000000000000000000000000003") (hex "c9cacbcccdcecfd0d1d2d3d4d5d6d7d8d9dadbdcdddedfe0e1e2e3e4") ≡ written 28 (hex "0603000000fffc030000000000000000000000000000000000030003"))
+    -- kind 6 stays, a loop that counts down
+    × (withSkips (hex "060300000018fc030000000000000000000000000000000000010003") (hex "c9cacbcccdcecfd0d1d2d3d4d5d6d7d8d9dadbdcdddedfe0e1e2e3e4") ≡ written 28 (hex "060300000018fc030000000000000000000000000000000000010003"))
+    -- to kind 6, loops that count down, both kinds
+    × (withSkips (hex "0202010000ffff030000000000000000000000000000000000060300000018fc0000010000000000000000ff000000000000030001010001000303") (hex "c9cacbcccdcecfd0d1d2d3d4d5d6d7d8d9dadbdcdddedfe0e1e2e3e4e5e6e7e8e9eaebecedeeeff0f1f2f3f4f5f6f7f8f9fac9cacbcccdcecfd0d1d2d3") ≡ written 61 (hex "0602010000ffff0300000000000000000000000000000000000201060300000018fc0000010000000000000000ff000000000000030001010001000303"))
+    -- to kind 6, stride -1,001
+    × (withSkips (hex "060300000017fc030000000000000000000000000000000000030003") (hex "c9cacbcccdcecfd0d1d2d3d4d5d6d7d8d9dadbdcdddedfe0e1e2e3e4e5e6") ≡ notWritten 3 0 (hex "c9cacbcccdcecfd0d1d2d3d4d5d6d7d8d9dadbdcdddedfe0e1e2e3e4e5e6"))
     -- to kind 6, 1 before 9
     × (withSkips (hex "0603000000010000000000000000000003000000000000000003") [] ≡ notWritten 1 0 [])
     -- to kind 6, 2 before 9
@@ -585,20 +629,20 @@ pub converter-1 :
     × (withSkips (hex "0403040304030403040304030403040304030403040304030403040304030403040304030403040304030403040304030403040304030403040304030403040303") [] ≡ notWritten 4 64 [])
     -- to kind 6, 5 before 9
     × (withSkips (hex "020300000001000000000000000000000300000000000000000303") [] ≡ notWritten 5 26 [])
+unfolding computes
+converter-1 = (refl, refl, refl, refl, refl, refl, refl, refl, refl, refl, refl, refl, refl, refl, refl, refl, refl, refl, refl, refl)
+
+pub converter-2 :
     -- to kind 6, open at the end before 9
-    × (withSkips (hex "02030000000100000000000000000000030000000000000000") [] ≡ notWritten 5 25 [])
+    (withSkips (hex "02030000000100000000000000000000030000000000000000") [] ≡ notWritten 5 25 [])
     -- to kind 6, a refusal leaves buffer and area
     × (withSkips (hex "06000000000100000000000000000000030000000000000000001003") (hex "c9cacbcccdcecfd0d1d2d3d4d5d6d7d8d9dadbdcdddedfe0e1e2e3e4e5e6") ≡ notWritten 3 0 (hex "c9cacbcccdcecfd0d1d2d3d4d5d6d7d8d9dadbdcdddedfe0e1e2e3e4e5e6"))
     -- kind 6 becomes kind 2
     × (withoutSkips (hex "06030000000100000000000000000000030000000000000000030003") (hex "c9cacbcccdcecfd0d1d2d3d4d5d6d7d8d9dadbdcdddedfe0e1e2") ≡ written 26 (hex "0203000000010000000000000000000003000000000000000003"))
     -- to kind 2, buffer one byte short
     × (withoutSkips (hex "06030000000100000000000000000000030000000000000000030003") (hex "c9cacbcccdcecfd0d1d2d3d4d5d6d7d8d9dadbdcdddedfe0e1") ≡ notWritten 9 0 (hex "c9cacbcccdcecfd0d1d2d3d4d5d6d7d8d9dadbdcdddedfe0e1"))
-unfolding computes
-converter-1 = (refl, refl, refl, refl, refl, refl, refl, refl, refl, refl, refl, refl, refl, refl, refl, refl, refl, refl, refl, refl)
-
-pub converter-2 :
     -- to kind 2, buffer three bytes longer: they stay
-    (withoutSkips (hex "06030000000100000000000000000000030000000000000000030003") (hex "c9cacbcccdcecfd0d1d2d3d4d5d6d7d8d9dadbdcdddedfe0e1e2e3e4e5") ≡ written 26 (hex "0203000000010000000000000000000003000000000000000003e3e4e5"))
+    × (withoutSkips (hex "06030000000100000000000000000000030000000000000000030003") (hex "c9cacbcccdcecfd0d1d2d3d4d5d6d7d8d9dadbdcdddedfe0e1e2e3e4e5") ≡ written 26 (hex "0203000000010000000000000000000003000000000000000003e3e4e5"))
     -- kind 2 stays
     × (withoutSkips (hex "0203000000010000000000000000000003000000000000000003") (hex "c9cacbcccdcecfd0d1d2d3d4d5d6d7d8d9dadbdcdddedfe0e1e2") ≡ written 26 (hex "0203000000010000000000000000000003000000000000000003"))
     -- to kind 2, all kinds
@@ -609,6 +653,16 @@ pub converter-2 :
     × (withoutSkips [] [] ≡ written 0 [])
     -- to kind 2, empty sheet, the buffer stays
     × (withoutSkips [] (hex "c9ca") ≡ written 0 (hex "c9ca"))
+    -- to kind 2, a loop that counts down
+    × (withoutSkips (hex "0603000000fffc030000000000000000000000000000000000030003") (hex "c9cacbcccdcecfd0d1d2d3d4d5d6d7d8d9dadbdcdddedfe0e1e2") ≡ written 26 (hex "0203000000fffc03000000000000000000000000000000000003"))
+    -- kind 2 stays, a loop that counts down
+    × (withoutSkips (hex "0203000000fffc03000000000000000000000000000000000003") (hex "c9cacbcccdcecfd0d1d2d3d4d5d6d7d8d9dadbdcdddedfe0e1e2") ≡ written 26 (hex "0203000000fffc03000000000000000000000000000000000003"))
+    -- to kind 2, loops that count down, both kinds
+    × (withoutSkips (hex "0202010000ffff030000000000000000000000000000000000060300000018fc0000010000000000000000ff000000000000030001010001000303") (hex "c9cacbcccdcecfd0d1d2d3d4d5d6d7d8d9dadbdcdddedfe0e1e2e3e4e5e6e7e8e9eaebecedeeeff0f1f2f3f4f5f6f7f8f9fac9cacbcccdcecf") ≡ written 57 (hex "0202010000ffff030000000000000000000000000000000000020300000018fc0000010000000000000000ff00000000000001010001000303"))
+    -- 10: a loop that counts down
+    × (withoutSkips (hex "060300000018fc030000000000000000000000000000000000010003") (hex "c9cacbcccdcecfd0d1d2d3d4d5d6d7d8d9dadbdcdddedfe0e1e2e3e4e5e6e7e8e9eaebecedeeeff0") ≡ notWritten 10 0 (hex "c9cacbcccdcecfd0d1d2d3d4d5d6d7d8d9dadbdcdddedfe0e1e2e3e4e5e6e7e8e9eaebecedeeeff0"))
+    -- stride -1,001 of a later record before 10
+    × (withoutSkips (hex "060300000018fc030000000000000000000000000000000000010003060300000017fc030000000000000000000000000000000000030003") [] ≡ notWritten 3 28 [])
     -- 10: a skip below start
     × (withoutSkips (hex "06030000000100000000000000000000030000000000000000010003") (hex "c9cacbcccdcecfd0d1d2d3d4d5d6d7d8d9dadbdcdddedfe0e1e2e3e4e5e6e7e8e9eaebecedeeeff0") ≡ notWritten 10 0 (hex "c9cacbcccdcecfd0d1d2d3d4d5d6d7d8d9dadbdcdddedfe0e1e2e3e4e5e6e7e8e9eaebecedeeeff0"))
     -- 10: a skip above start
@@ -619,8 +673,12 @@ pub converter-2 :
     × (withoutSkips (hex "06030000000100000000000000000000030000000000000000010003") [] ≡ notWritten 10 0 [])
     -- 10 at the first of two, by the old sheet
     × (withoutSkips (hex "060300000001000000000000000000000300000000000000000300030603000000010000000000000000000003000000000000000001000306030000000100000000000000000000030000000000000000040003") (hex "c9cacbcccdcecfd0d1d2d3d4d5d6d7d8d9dadbdcdddedfe0e1e2e3e4e5e6e7e8e9eaebecedeeeff0f1f2f3f4f5f6f7f8f9fac9cacbcccdcecfd0d1d2d3d4d5d6d7d8d9dadbdcdddedfe0e1e2e3e4e5e6e7e8e9eaebecedeeeff0") ≡ notWritten 10 28 (hex "c9cacbcccdcecfd0d1d2d3d4d5d6d7d8d9dadbdcdddedfe0e1e2e3e4e5e6e7e8e9eaebecedeeeff0f1f2f3f4f5f6f7f8f9fac9cacbcccdcecfd0d1d2d3d4d5d6d7d8d9dadbdcdddedfe0e1e2e3e4e5e6e7e8e9eaebecedeeeff0"))
+unfolding computes
+converter-2 = (refl, refl, refl, refl, refl, refl, refl, refl, refl, refl, refl, refl, refl, refl, refl, refl, refl, refl, refl, refl)
+
+pub converter-3 :
     -- 10 after a loop of kind 2
-    × (withoutSkips (hex "0101000100020300000001000000000000000000000300000000000000000306030000000100000000000000000000030000000000000000040003") (hex "c9cacbcccdcecfd0d1d2d3d4d5d6d7d8d9dadbdcdddedfe0e1e2e3e4e5e6e7e8e9eaebecedeeeff0f1f2f3f4f5f6f7f8f9fac9cacbcccdcecfd0d1d2d3d4d5d6d7d8d9dadbdcdddedfe0e1e2e3e4e5e6e7e8e9eaebecedeeeff0") ≡ notWritten 10 31 (hex "c9cacbcccdcecfd0d1d2d3d4d5d6d7d8d9dadbdcdddedfe0e1e2e3e4e5e6e7e8e9eaebecedeeeff0f1f2f3f4f5f6f7f8f9fac9cacbcccdcecfd0d1d2d3d4d5d6d7d8d9dadbdcdddedfe0e1e2e3e4e5e6e7e8e9eaebecedeeeff0"))
+    (withoutSkips (hex "0101000100020300000001000000000000000000000300000000000000000306030000000100000000000000000000030000000000000000040003") (hex "c9cacbcccdcecfd0d1d2d3d4d5d6d7d8d9dadbdcdddedfe0e1e2e3e4e5e6e7e8e9eaebecedeeeff0f1f2f3f4f5f6f7f8f9fac9cacbcccdcecfd0d1d2d3d4d5d6d7d8d9dadbdcdddedfe0e1e2e3e4e5e6e7e8e9eaebecedeeeff0") ≡ notWritten 10 31 (hex "c9cacbcccdcecfd0d1d2d3d4d5d6d7d8d9dadbdcdddedfe0e1e2e3e4e5e6e7e8e9eaebecedeeeff0f1f2f3f4f5f6f7f8f9fac9cacbcccdcecfd0d1d2d3d4d5d6d7d8d9dadbdcdddedfe0e1e2e3e4e5e6e7e8e9eaebecedeeeff0"))
     -- 10 in a loop
     × (withoutSkips (hex "0603000000010000000000000000000003000000000000000003000603000000010000000000000000000003000000000000000001000303") (hex "c9cacbcccdcecfd0d1d2d3d4d5d6d7d8d9dadbdcdddedfe0e1e2e3e4e5e6e7e8e9eaebecedeeeff0f1f2f3f4f5f6f7f8f9fac9cacbcccdcecfd0d1d2d3d4d5d6d7d8d9dadbdcdddedfe0e1e2e3e4e5e6e7e8e9eaebecedeeeff0") ≡ notWritten 10 27 (hex "c9cacbcccdcecfd0d1d2d3d4d5d6d7d8d9dadbdcdddedfe0e1e2e3e4e5e6e7e8e9eaebecedeeeff0f1f2f3f4f5f6f7f8f9fac9cacbcccdcecfd0d1d2d3d4d5d6d7d8d9dadbdcdddedfe0e1e2e3e4e5e6e7e8e9eaebecedeeeff0"))
     -- 1 of a later record before 10
@@ -638,7 +696,7 @@ pub converter-2 :
     -- 3 before an area of 7 bytes
     × (withSkips (hex "06000000000100000000000000000000030000000000000000001003") (hex "c9cacbcccdcecfd0d1d2d3d4d5d6d7d8d9dadbdcdddedfe0e1e2e3e4e5e6e7e8e9eaebecedeeeff0") ≡ notWritten 3 0 (hex "c9cacbcccdcecfd0d1d2d3d4d5d6d7d8d9dadbdcdddedfe0e1e2e3e4e5e6e7e8e9eaebecedeeeff0"))
 unfolding computes
-converter-2 = (refl, refl, refl, refl, refl, refl, refl, refl, refl, refl, refl, refl, refl, refl, refl, refl, refl, refl, refl, refl)
+converter-3 = (refl, refl, refl, refl, refl, refl, refl, refl, refl)
 
 pub converter-call-1 :
     -- kind 2 becomes kind 6, its skip its start
@@ -663,6 +721,14 @@ pub converter-call-1 :
     × (withSkipsCall [] [] (hex "c9cacbcccdcecfd0") ≡ lent 0 [] (hex "0000000000000000"))
     -- to kind 6, empty sheet, the buffer stays
     × (withSkipsCall [] (hex "c9ca") (hex "c9cacbcccdcecfd0") ≡ lent 0 (hex "c9ca") (hex "0000000000000000"))
+    -- to kind 6, a loop that counts down
+    × (withSkipsCall (hex "0203000000fffc03000000000000000000000000000000000003") (hex "c9cacbcccdcecfd0d1d2d3d4d5d6d7d8d9dadbdcdddedfe0e1e2e3e4") (hex "c9cacbcccdcecfd0") ≡ lent 0 (hex "0603000000fffc030000000000000000000000000000000000030003") (hex "1c00000000000000"))
+    -- kind 6 stays, a loop that counts down
+    × (withSkipsCall (hex "060300000018fc030000000000000000000000000000000000010003") (hex "c9cacbcccdcecfd0d1d2d3d4d5d6d7d8d9dadbdcdddedfe0e1e2e3e4") (hex "c9cacbcccdcecfd0") ≡ lent 0 (hex "060300000018fc030000000000000000000000000000000000010003") (hex "1c00000000000000"))
+    -- to kind 6, loops that count down, both kinds
+    × (withSkipsCall (hex "0202010000ffff030000000000000000000000000000000000060300000018fc0000010000000000000000ff000000000000030001010001000303") (hex "c9cacbcccdcecfd0d1d2d3d4d5d6d7d8d9dadbdcdddedfe0e1e2e3e4e5e6e7e8e9eaebecedeeeff0f1f2f3f4f5f6f7f8f9fac9cacbcccdcecfd0d1d2d3") (hex "c9cacbcccdcecfd0") ≡ lent 0 (hex "0602010000ffff0300000000000000000000000000000000000201060300000018fc0000010000000000000000ff000000000000030001010001000303") (hex "3d00000000000000"))
+    -- to kind 6, stride -1,001
+    × (withSkipsCall (hex "060300000017fc030000000000000000000000000000000000030003") (hex "c9cacbcccdcecfd0d1d2d3d4d5d6d7d8d9dadbdcdddedfe0e1e2e3e4e5e6") (hex "c9cacbcccdcecfd0") ≡ lent 3 (hex "c9cacbcccdcecfd0d1d2d3d4d5d6d7d8d9dadbdcdddedfe0e1e2e3e4e5e6") (hex "c9cacbcccdcecfd0"))
     -- to kind 6, 1 before 9
     × (withSkipsCall (hex "0603000000010000000000000000000003000000000000000003") [] [] ≡ lent 1 [] [])
     -- to kind 6, 2 before 9
@@ -673,20 +739,20 @@ pub converter-call-1 :
     × (withSkipsCall (hex "0403040304030403040304030403040304030403040304030403040304030403040304030403040304030403040304030403040304030403040304030403040303") [] [] ≡ lent 4 [] [])
     -- to kind 6, 5 before 9
     × (withSkipsCall (hex "020300000001000000000000000000000300000000000000000303") [] [] ≡ lent 5 [] [])
+unfolding computes
+converter-call-1 = (refl, refl, refl, refl, refl, refl, refl, refl, refl, refl, refl, refl, refl, refl, refl, refl, refl, refl, refl, refl)
+
+pub converter-call-2 :
     -- to kind 6, open at the end before 9
-    × (withSkipsCall (hex "02030000000100000000000000000000030000000000000000") [] [] ≡ lent 5 [] [])
+    (withSkipsCall (hex "02030000000100000000000000000000030000000000000000") [] [] ≡ lent 5 [] [])
     -- to kind 6, a refusal leaves buffer and area
     × (withSkipsCall (hex "06000000000100000000000000000000030000000000000000001003") (hex "c9cacbcccdcecfd0d1d2d3d4d5d6d7d8d9dadbdcdddedfe0e1e2e3e4e5e6") (hex "c9cacbcccdcecfd0d1") ≡ lent 3 (hex "c9cacbcccdcecfd0d1d2d3d4d5d6d7d8d9dadbdcdddedfe0e1e2e3e4e5e6") (hex "c9cacbcccdcecfd0d1"))
     -- kind 6 becomes kind 2
     × (withoutSkipsCall (hex "06030000000100000000000000000000030000000000000000030003") (hex "c9cacbcccdcecfd0d1d2d3d4d5d6d7d8d9dadbdcdddedfe0e1e2") (hex "c9cacbcccdcecfd0") ≡ lent 0 (hex "0203000000010000000000000000000003000000000000000003") (hex "1a00000000000000"))
     -- to kind 2, buffer one byte short
     × (withoutSkipsCall (hex "06030000000100000000000000000000030000000000000000030003") (hex "c9cacbcccdcecfd0d1d2d3d4d5d6d7d8d9dadbdcdddedfe0e1") (hex "c9cacbcccdcecfd0") ≡ lent 9 (hex "c9cacbcccdcecfd0d1d2d3d4d5d6d7d8d9dadbdcdddedfe0e1") (hex "c9cacbcccdcecfd0"))
-unfolding computes
-converter-call-1 = (refl, refl, refl, refl, refl, refl, refl, refl, refl, refl, refl, refl, refl, refl, refl, refl, refl, refl, refl, refl)
-
-pub converter-call-2 :
     -- to kind 2, buffer three bytes longer: they stay
-    (withoutSkipsCall (hex "06030000000100000000000000000000030000000000000000030003") (hex "c9cacbcccdcecfd0d1d2d3d4d5d6d7d8d9dadbdcdddedfe0e1e2e3e4e5") (hex "c9cacbcccdcecfd0") ≡ lent 0 (hex "0203000000010000000000000000000003000000000000000003e3e4e5") (hex "1a00000000000000"))
+    × (withoutSkipsCall (hex "06030000000100000000000000000000030000000000000000030003") (hex "c9cacbcccdcecfd0d1d2d3d4d5d6d7d8d9dadbdcdddedfe0e1e2e3e4e5") (hex "c9cacbcccdcecfd0") ≡ lent 0 (hex "0203000000010000000000000000000003000000000000000003e3e4e5") (hex "1a00000000000000"))
     -- kind 2 stays
     × (withoutSkipsCall (hex "0203000000010000000000000000000003000000000000000003") (hex "c9cacbcccdcecfd0d1d2d3d4d5d6d7d8d9dadbdcdddedfe0e1e2") (hex "c9cacbcccdcecfd0") ≡ lent 0 (hex "0203000000010000000000000000000003000000000000000003") (hex "1a00000000000000"))
     -- to kind 2, all kinds
@@ -697,6 +763,16 @@ pub converter-call-2 :
     × (withoutSkipsCall [] [] (hex "c9cacbcccdcecfd0") ≡ lent 0 [] (hex "0000000000000000"))
     -- to kind 2, empty sheet, the buffer stays
     × (withoutSkipsCall [] (hex "c9ca") (hex "c9cacbcccdcecfd0") ≡ lent 0 (hex "c9ca") (hex "0000000000000000"))
+    -- to kind 2, a loop that counts down
+    × (withoutSkipsCall (hex "0603000000fffc030000000000000000000000000000000000030003") (hex "c9cacbcccdcecfd0d1d2d3d4d5d6d7d8d9dadbdcdddedfe0e1e2") (hex "c9cacbcccdcecfd0") ≡ lent 0 (hex "0203000000fffc03000000000000000000000000000000000003") (hex "1a00000000000000"))
+    -- kind 2 stays, a loop that counts down
+    × (withoutSkipsCall (hex "0203000000fffc03000000000000000000000000000000000003") (hex "c9cacbcccdcecfd0d1d2d3d4d5d6d7d8d9dadbdcdddedfe0e1e2") (hex "c9cacbcccdcecfd0") ≡ lent 0 (hex "0203000000fffc03000000000000000000000000000000000003") (hex "1a00000000000000"))
+    -- to kind 2, loops that count down, both kinds
+    × (withoutSkipsCall (hex "0202010000ffff030000000000000000000000000000000000060300000018fc0000010000000000000000ff000000000000030001010001000303") (hex "c9cacbcccdcecfd0d1d2d3d4d5d6d7d8d9dadbdcdddedfe0e1e2e3e4e5e6e7e8e9eaebecedeeeff0f1f2f3f4f5f6f7f8f9fac9cacbcccdcecf") (hex "c9cacbcccdcecfd0") ≡ lent 0 (hex "0202010000ffff030000000000000000000000000000000000020300000018fc0000010000000000000000ff00000000000001010001000303") (hex "3900000000000000"))
+    -- 10: a loop that counts down
+    × (withoutSkipsCall (hex "060300000018fc030000000000000000000000000000000000010003") (hex "c9cacbcccdcecfd0d1d2d3d4d5d6d7d8d9dadbdcdddedfe0e1e2e3e4e5e6e7e8e9eaebecedeeeff0") (hex "c9cacbcccdcecfd0") ≡ lent 10 (hex "c9cacbcccdcecfd0d1d2d3d4d5d6d7d8d9dadbdcdddedfe0e1e2e3e4e5e6e7e8e9eaebecedeeeff0") (hex "c9cacbcccdcecfd0"))
+    -- stride -1,001 of a later record before 10
+    × (withoutSkipsCall (hex "060300000018fc030000000000000000000000000000000000010003060300000017fc030000000000000000000000000000000000030003") [] [] ≡ lent 3 [] [])
     -- 10: a skip below start
     × (withoutSkipsCall (hex "06030000000100000000000000000000030000000000000000010003") (hex "c9cacbcccdcecfd0d1d2d3d4d5d6d7d8d9dadbdcdddedfe0e1e2e3e4e5e6e7e8e9eaebecedeeeff0") (hex "c9cacbcccdcecfd0") ≡ lent 10 (hex "c9cacbcccdcecfd0d1d2d3d4d5d6d7d8d9dadbdcdddedfe0e1e2e3e4e5e6e7e8e9eaebecedeeeff0") (hex "c9cacbcccdcecfd0"))
     -- 10: a skip above start
@@ -707,8 +783,12 @@ pub converter-call-2 :
     × (withoutSkipsCall (hex "06030000000100000000000000000000030000000000000000010003") [] [] ≡ lent 10 [] [])
     -- 10 at the first of two, by the old sheet
     × (withoutSkipsCall (hex "060300000001000000000000000000000300000000000000000300030603000000010000000000000000000003000000000000000001000306030000000100000000000000000000030000000000000000040003") (hex "c9cacbcccdcecfd0d1d2d3d4d5d6d7d8d9dadbdcdddedfe0e1e2e3e4e5e6e7e8e9eaebecedeeeff0f1f2f3f4f5f6f7f8f9fac9cacbcccdcecfd0d1d2d3d4d5d6d7d8d9dadbdcdddedfe0e1e2e3e4e5e6e7e8e9eaebecedeeeff0") (hex "c9cacbcccdcecfd0") ≡ lent 10 (hex "c9cacbcccdcecfd0d1d2d3d4d5d6d7d8d9dadbdcdddedfe0e1e2e3e4e5e6e7e8e9eaebecedeeeff0f1f2f3f4f5f6f7f8f9fac9cacbcccdcecfd0d1d2d3d4d5d6d7d8d9dadbdcdddedfe0e1e2e3e4e5e6e7e8e9eaebecedeeeff0") (hex "c9cacbcccdcecfd0"))
+unfolding computes
+converter-call-2 = (refl, refl, refl, refl, refl, refl, refl, refl, refl, refl, refl, refl, refl, refl, refl, refl, refl, refl, refl, refl)
+
+pub converter-call-3 :
     -- 10 after a loop of kind 2
-    × (withoutSkipsCall (hex "0101000100020300000001000000000000000000000300000000000000000306030000000100000000000000000000030000000000000000040003") (hex "c9cacbcccdcecfd0d1d2d3d4d5d6d7d8d9dadbdcdddedfe0e1e2e3e4e5e6e7e8e9eaebecedeeeff0f1f2f3f4f5f6f7f8f9fac9cacbcccdcecfd0d1d2d3d4d5d6d7d8d9dadbdcdddedfe0e1e2e3e4e5e6e7e8e9eaebecedeeeff0") (hex "c9cacbcccdcecfd0") ≡ lent 10 (hex "c9cacbcccdcecfd0d1d2d3d4d5d6d7d8d9dadbdcdddedfe0e1e2e3e4e5e6e7e8e9eaebecedeeeff0f1f2f3f4f5f6f7f8f9fac9cacbcccdcecfd0d1d2d3d4d5d6d7d8d9dadbdcdddedfe0e1e2e3e4e5e6e7e8e9eaebecedeeeff0") (hex "c9cacbcccdcecfd0"))
+    (withoutSkipsCall (hex "0101000100020300000001000000000000000000000300000000000000000306030000000100000000000000000000030000000000000000040003") (hex "c9cacbcccdcecfd0d1d2d3d4d5d6d7d8d9dadbdcdddedfe0e1e2e3e4e5e6e7e8e9eaebecedeeeff0f1f2f3f4f5f6f7f8f9fac9cacbcccdcecfd0d1d2d3d4d5d6d7d8d9dadbdcdddedfe0e1e2e3e4e5e6e7e8e9eaebecedeeeff0") (hex "c9cacbcccdcecfd0") ≡ lent 10 (hex "c9cacbcccdcecfd0d1d2d3d4d5d6d7d8d9dadbdcdddedfe0e1e2e3e4e5e6e7e8e9eaebecedeeeff0f1f2f3f4f5f6f7f8f9fac9cacbcccdcecfd0d1d2d3d4d5d6d7d8d9dadbdcdddedfe0e1e2e3e4e5e6e7e8e9eaebecedeeeff0") (hex "c9cacbcccdcecfd0"))
     -- 10 in a loop
     × (withoutSkipsCall (hex "0603000000010000000000000000000003000000000000000003000603000000010000000000000000000003000000000000000001000303") (hex "c9cacbcccdcecfd0d1d2d3d4d5d6d7d8d9dadbdcdddedfe0e1e2e3e4e5e6e7e8e9eaebecedeeeff0f1f2f3f4f5f6f7f8f9fac9cacbcccdcecfd0d1d2d3d4d5d6d7d8d9dadbdcdddedfe0e1e2e3e4e5e6e7e8e9eaebecedeeeff0") (hex "c9cacbcccdcecfd0") ≡ lent 10 (hex "c9cacbcccdcecfd0d1d2d3d4d5d6d7d8d9dadbdcdddedfe0e1e2e3e4e5e6e7e8e9eaebecedeeeff0f1f2f3f4f5f6f7f8f9fac9cacbcccdcecfd0d1d2d3d4d5d6d7d8d9dadbdcdddedfe0e1e2e3e4e5e6e7e8e9eaebecedeeeff0") (hex "c9cacbcccdcecfd0"))
     -- 1 of a later record before 10
@@ -725,12 +805,8 @@ pub converter-call-2 :
     × (withoutSkipsCall (hex "060300000001000000000000000000000300000000000000000100") [] [] ≡ lent 5 [] [])
     -- to kind 6, area of 9 bytes: the last stays
     × (withSkipsCall (hex "0203000000010000000000000000000003000000000000000003") (hex "c9cacbcccdcecfd0d1d2d3d4d5d6d7d8d9dadbdcdddedfe0e1e2e3e4") (hex "c9cacbcccdcecfd0d1") ≡ lent 0 (hex "06030000000100000000000000000000030000000000000000030003") (hex "1c00000000000000d1"))
-unfolding computes
-converter-call-2 = (refl, refl, refl, refl, refl, refl, refl, refl, refl, refl, refl, refl, refl, refl, refl, refl, refl, refl, refl, refl)
-
-pub converter-call-3 :
     -- to kind 6, area of 7 bytes
-    (withSkipsCall (hex "0203000000010000000000000000000003000000000000000003") (hex "c9cacbcccdcecfd0d1d2d3d4d5d6d7d8d9dadbdcdddedfe0e1e2e3e4") (hex "c9cacbcccdcecf") ≡ lent 9 (hex "c9cacbcccdcecfd0d1d2d3d4d5d6d7d8d9dadbdcdddedfe0e1e2e3e4") (hex "c9cacbcccdcecf"))
+    × (withSkipsCall (hex "0203000000010000000000000000000003000000000000000003") (hex "c9cacbcccdcecfd0d1d2d3d4d5d6d7d8d9dadbdcdddedfe0e1e2e3e4") (hex "c9cacbcccdcecf") ≡ lent 9 (hex "c9cacbcccdcecfd0d1d2d3d4d5d6d7d8d9dadbdcdddedfe0e1e2e3e4") (hex "c9cacbcccdcecf"))
     -- to kind 6, no area
     × (withSkipsCall [] [] [] ≡ lent 9 [] [])
     -- to kind 6, neither buffer nor area long enough
@@ -746,7 +822,7 @@ pub converter-call-3 :
     -- 3 before an area of 7 bytes
     × (withSkipsCall (hex "06000000000100000000000000000000030000000000000000001003") (hex "c9cacbcccdcecfd0d1d2d3d4d5d6d7d8d9dadbdcdddedfe0e1e2e3e4e5e6e7e8e9eaebecedeeeff0") (hex "c9cacbcccdcecf") ≡ lent 3 (hex "c9cacbcccdcecfd0d1d2d3d4d5d6d7d8d9dadbdcdddedfe0e1e2e3e4e5e6e7e8e9eaebecedeeeff0") (hex "c9cacbcccdcecf"))
 unfolding computes
-converter-call-3 = (refl, refl, refl, refl, refl, refl, refl, refl)
+converter-call-3 = (refl, refl, refl, refl, refl, refl, refl, refl, refl, refl, refl, refl, refl, refl, refl, refl, refl)
 
 pub numbers-1 :
     -- every figure is below 2^62

@@ -12,7 +12,7 @@ use Rattle.meaning.proofs.Computes.{computes}
 
 -- 1. costs: i 0 to 9
 abbrev loop1-0 : Loop
-loop1-0 = loopOf 2 1 1 (form (pos 0) (pos 0 ∷ pos 0 ∷ pos 0 ∷ []) (pos 0 ∷ pos 0 ∷ pos 0 ∷ pos 0 ∷ [])) (form (pos 9) (pos 0 ∷ pos 0 ∷ pos 0 ∷ []) (pos 0 ∷ pos 0 ∷ pos 0 ∷ pos 0 ∷ []))
+loop1-0 = loopOf 2 1 (pos 1) (form (pos 0) (pos 0 ∷ pos 0 ∷ pos 0 ∷ []) (pos 0 ∷ pos 0 ∷ pos 0 ∷ pos 0 ∷ [])) (form (pos 9) (pos 0 ∷ pos 0 ∷ pos 0 ∷ []) (pos 0 ∷ pos 0 ∷ pos 0 ∷ pos 0 ∷ []))
 
 abbrev records1 : List Record
 records1 = loopRecord loop1-0 ∷ workRecord 3 5 ∷ endRecord ∷ []
@@ -27,10 +27,10 @@ states-1 = (refl, refl, refl, refl)
 
 -- 2. closed: i 0 to 9, j 0 to i - 1
 abbrev loop2-0 : Loop
-loop2-0 = loopOf 0 0 1 (form (pos 0) (pos 0 ∷ pos 0 ∷ pos 0 ∷ []) (pos 0 ∷ pos 0 ∷ pos 0 ∷ pos 0 ∷ [])) (form (pos 9) (pos 0 ∷ pos 0 ∷ pos 0 ∷ []) (pos 0 ∷ pos 0 ∷ pos 0 ∷ pos 0 ∷ []))
+loop2-0 = loopOf 0 0 (pos 1) (form (pos 0) (pos 0 ∷ pos 0 ∷ pos 0 ∷ []) (pos 0 ∷ pos 0 ∷ pos 0 ∷ pos 0 ∷ [])) (form (pos 9) (pos 0 ∷ pos 0 ∷ pos 0 ∷ []) (pos 0 ∷ pos 0 ∷ pos 0 ∷ pos 0 ∷ []))
 
 abbrev loop2-1 : Loop
-loop2-1 = loopOf 0 0 1 (form (pos 0) (pos 0 ∷ pos 0 ∷ pos 0 ∷ []) (pos 0 ∷ pos 0 ∷ pos 0 ∷ pos 0 ∷ [])) (form (negsuc 0) (pos 1 ∷ pos 0 ∷ pos 0 ∷ []) (pos 0 ∷ pos 0 ∷ pos 0 ∷ pos 0 ∷ []))
+loop2-1 = loopOf 0 0 (pos 1) (form (pos 0) (pos 0 ∷ pos 0 ∷ pos 0 ∷ []) (pos 0 ∷ pos 0 ∷ pos 0 ∷ pos 0 ∷ [])) (form (negsuc 0) (pos 1 ∷ pos 0 ∷ pos 0 ∷ []) (pos 0 ∷ pos 0 ∷ pos 0 ∷ pos 0 ∷ []))
 
 abbrev records2 : List Record
 records2 = loopRecord loop2-0 ∷ loopRecord loop2-1 ∷ workRecord 1 1 ∷ endRecord ∷ endRecord ∷ []
@@ -47,10 +47,10 @@ states-2 = (refl, refl, refl, refl, refl, refl)
 
 -- 3. walked: i 0 to 9, j 0 to i by 2
 abbrev loop3-0 : Loop
-loop3-0 = loopOf 0 0 1 (form (pos 0) (pos 0 ∷ pos 0 ∷ pos 0 ∷ []) (pos 0 ∷ pos 0 ∷ pos 0 ∷ pos 0 ∷ [])) (form (pos 9) (pos 0 ∷ pos 0 ∷ pos 0 ∷ []) (pos 0 ∷ pos 0 ∷ pos 0 ∷ pos 0 ∷ []))
+loop3-0 = loopOf 0 0 (pos 1) (form (pos 0) (pos 0 ∷ pos 0 ∷ pos 0 ∷ []) (pos 0 ∷ pos 0 ∷ pos 0 ∷ pos 0 ∷ [])) (form (pos 9) (pos 0 ∷ pos 0 ∷ pos 0 ∷ []) (pos 0 ∷ pos 0 ∷ pos 0 ∷ pos 0 ∷ []))
 
 abbrev loop3-1 : Loop
-loop3-1 = loopOf 0 0 2 (form (pos 0) (pos 0 ∷ pos 0 ∷ pos 0 ∷ []) (pos 0 ∷ pos 0 ∷ pos 0 ∷ pos 0 ∷ [])) (form (pos 0) (pos 1 ∷ pos 0 ∷ pos 0 ∷ []) (pos 0 ∷ pos 0 ∷ pos 0 ∷ pos 0 ∷ []))
+loop3-1 = loopOf 0 0 (pos 2) (form (pos 0) (pos 0 ∷ pos 0 ∷ pos 0 ∷ []) (pos 0 ∷ pos 0 ∷ pos 0 ∷ pos 0 ∷ [])) (form (pos 0) (pos 1 ∷ pos 0 ∷ pos 0 ∷ []) (pos 0 ∷ pos 0 ∷ pos 0 ∷ pos 0 ∷ []))
 
 abbrev records3 : List Record
 records3 = loopRecord loop3-0 ∷ loopRecord loop3-1 ∷ workRecord 1 1 ∷ endRecord ∷ endRecord ∷ []
@@ -84,13 +84,13 @@ states-3 = (refl, refl, refl, refl, refl, refl, refl, refl, refl, refl, refl, re
 
 -- 4. closed, three deep
 abbrev loop4-0 : Loop
-loop4-0 = loopOf 0 0 1 (form (pos 0) (pos 0 ∷ pos 0 ∷ pos 0 ∷ []) (pos 0 ∷ pos 0 ∷ pos 0 ∷ pos 0 ∷ [])) (form (pos 9) (pos 0 ∷ pos 0 ∷ pos 0 ∷ []) (pos 0 ∷ pos 0 ∷ pos 0 ∷ pos 0 ∷ []))
+loop4-0 = loopOf 0 0 (pos 1) (form (pos 0) (pos 0 ∷ pos 0 ∷ pos 0 ∷ []) (pos 0 ∷ pos 0 ∷ pos 0 ∷ pos 0 ∷ [])) (form (pos 9) (pos 0 ∷ pos 0 ∷ pos 0 ∷ []) (pos 0 ∷ pos 0 ∷ pos 0 ∷ pos 0 ∷ []))
 
 abbrev loop4-1 : Loop
-loop4-1 = loopOf 0 0 1 (form (pos 0) (pos 1 ∷ pos 0 ∷ pos 0 ∷ []) (pos 0 ∷ pos 0 ∷ pos 0 ∷ pos 0 ∷ [])) (form (pos 10) (pos 0 ∷ pos 0 ∷ pos 0 ∷ []) (pos 0 ∷ pos 0 ∷ pos 0 ∷ pos 0 ∷ []))
+loop4-1 = loopOf 0 0 (pos 1) (form (pos 0) (pos 1 ∷ pos 0 ∷ pos 0 ∷ []) (pos 0 ∷ pos 0 ∷ pos 0 ∷ pos 0 ∷ [])) (form (pos 10) (pos 0 ∷ pos 0 ∷ pos 0 ∷ []) (pos 0 ∷ pos 0 ∷ pos 0 ∷ pos 0 ∷ []))
 
 abbrev loop4-2 : Loop
-loop4-2 = loopOf 0 0 1 (form (negsuc 2) (pos 1 ∷ pos 0 ∷ pos 0 ∷ []) (pos 0 ∷ pos 0 ∷ pos 0 ∷ pos 0 ∷ [])) (form (pos 7) (pos 0 ∷ pos 1 ∷ pos 0 ∷ []) (pos 0 ∷ pos 0 ∷ pos 0 ∷ pos 0 ∷ []))
+loop4-2 = loopOf 0 0 (pos 1) (form (negsuc 2) (pos 1 ∷ pos 0 ∷ pos 0 ∷ []) (pos 0 ∷ pos 0 ∷ pos 0 ∷ pos 0 ∷ [])) (form (pos 7) (pos 0 ∷ pos 1 ∷ pos 0 ∷ []) (pos 0 ∷ pos 0 ∷ pos 0 ∷ pos 0 ∷ []))
 
 abbrev records4 : List Record
 records4 = loopRecord loop4-0 ∷ loopRecord loop4-1 ∷ loopRecord loop4-2 ∷ workRecord 1 1 ∷ endRecord ∷ endRecord ∷ endRecord ∷ []
@@ -119,10 +119,10 @@ states-4 = (refl, refl, refl, refl, refl, refl, refl, refl, refl, refl, refl, re
 
 -- 5. walked: a loop in an arm
 abbrev loop5-0 : Loop
-loop5-0 = loopOf 0 0 1 (form (pos 0) (pos 0 ∷ pos 0 ∷ pos 0 ∷ []) (pos 0 ∷ pos 0 ∷ pos 0 ∷ pos 0 ∷ [])) (form (pos 9) (pos 0 ∷ pos 0 ∷ pos 0 ∷ []) (pos 0 ∷ pos 0 ∷ pos 0 ∷ pos 0 ∷ []))
+loop5-0 = loopOf 0 0 (pos 1) (form (pos 0) (pos 0 ∷ pos 0 ∷ pos 0 ∷ []) (pos 0 ∷ pos 0 ∷ pos 0 ∷ pos 0 ∷ [])) (form (pos 9) (pos 0 ∷ pos 0 ∷ pos 0 ∷ []) (pos 0 ∷ pos 0 ∷ pos 0 ∷ pos 0 ∷ []))
 
 abbrev loop5-2 : Loop
-loop5-2 = loopOf 0 0 1 (form (pos 0) (pos 0 ∷ pos 0 ∷ pos 0 ∷ []) (pos 0 ∷ pos 0 ∷ pos 0 ∷ pos 0 ∷ [])) (form (negsuc 0) (pos 1 ∷ pos 0 ∷ pos 0 ∷ []) (pos 0 ∷ pos 0 ∷ pos 0 ∷ pos 0 ∷ []))
+loop5-2 = loopOf 0 0 (pos 1) (form (pos 0) (pos 0 ∷ pos 0 ∷ pos 0 ∷ []) (pos 0 ∷ pos 0 ∷ pos 0 ∷ pos 0 ∷ [])) (form (negsuc 0) (pos 1 ∷ pos 0 ∷ pos 0 ∷ []) (pos 0 ∷ pos 0 ∷ pos 0 ∷ pos 0 ∷ []))
 
 abbrev records5 : List Record
 records5 = loopRecord loop5-0 ∷ choiceRecord ∷ loopRecord loop5-2 ∷ workRecord 1 1 ∷ endRecord ∷ nextArmRecord ∷ workRecord 4 4 ∷ endRecord ∷ endRecord ∷ []
@@ -155,7 +155,7 @@ states-5 = (refl, refl, refl, refl, refl, refl, refl, refl, refl, refl, refl, re
 
 -- 6. no trip
 abbrev loop6-0 : Loop
-loop6-0 = loopOf 0 0 3 (form (pos 0) (pos 0 ∷ pos 0 ∷ pos 0 ∷ []) (pos 0 ∷ pos 0 ∷ pos 0 ∷ pos 0 ∷ [])) (form (negsuc 0) (pos 0 ∷ pos 0 ∷ pos 0 ∷ []) (pos 0 ∷ pos 0 ∷ pos 0 ∷ pos 0 ∷ []))
+loop6-0 = loopOf 0 0 (pos 3) (form (pos 0) (pos 0 ∷ pos 0 ∷ pos 0 ∷ []) (pos 0 ∷ pos 0 ∷ pos 0 ∷ pos 0 ∷ [])) (form (negsuc 0) (pos 0 ∷ pos 0 ∷ pos 0 ∷ []) (pos 0 ∷ pos 0 ∷ pos 0 ∷ pos 0 ∷ []))
 
 abbrev records6 : List Record
 records6 = loopRecord loop6-0 ∷ workRecord 1 1 ∷ endRecord ∷ []
@@ -169,10 +169,10 @@ states-6 = (refl, refl, refl)
 
 -- 7. walked with start and step, the inner loop empty in later trips
 abbrev loop7-0 : Loop
-loop7-0 = loopOf 7 2 1 (form (pos 1) (pos 0 ∷ pos 0 ∷ pos 0 ∷ []) (pos 0 ∷ pos 0 ∷ pos 0 ∷ pos 0 ∷ [])) (form (pos 3) (pos 0 ∷ pos 0 ∷ pos 0 ∷ []) (pos 0 ∷ pos 0 ∷ pos 0 ∷ pos 0 ∷ []))
+loop7-0 = loopOf 7 2 (pos 1) (form (pos 1) (pos 0 ∷ pos 0 ∷ pos 0 ∷ []) (pos 0 ∷ pos 0 ∷ pos 0 ∷ pos 0 ∷ [])) (form (pos 3) (pos 0 ∷ pos 0 ∷ pos 0 ∷ []) (pos 0 ∷ pos 0 ∷ pos 0 ∷ pos 0 ∷ []))
 
 abbrev loop7-2 : Loop
-loop7-2 = loopOf 5 1 1 (form (pos 0) (pos 1 ∷ pos 0 ∷ pos 0 ∷ []) (pos 0 ∷ pos 0 ∷ pos 0 ∷ pos 0 ∷ [])) (form (pos 1) (pos 0 ∷ pos 0 ∷ pos 0 ∷ []) (pos 0 ∷ pos 0 ∷ pos 0 ∷ pos 0 ∷ []))
+loop7-2 = loopOf 5 1 (pos 1) (form (pos 0) (pos 1 ∷ pos 0 ∷ pos 0 ∷ []) (pos 0 ∷ pos 0 ∷ pos 0 ∷ pos 0 ∷ [])) (form (pos 1) (pos 0 ∷ pos 0 ∷ pos 0 ∷ []) (pos 0 ∷ pos 0 ∷ pos 0 ∷ pos 0 ∷ []))
 
 abbrev records7 : List Record
 records7 = loopRecord loop7-0 ∷ workRecord 1 3 ∷ loopRecord loop7-2 ∷ workRecord 2 4 ∷ endRecord ∷ endRecord ∷ []
@@ -190,10 +190,10 @@ states-7 = (refl, refl, refl, refl, refl, refl, refl)
 
 -- 8. a choice of three arms in a closed nest, a work after it
 abbrev loop8-0 : Loop
-loop8-0 = loopOf 1 2 1 (form (pos 0) (pos 0 ∷ pos 0 ∷ pos 0 ∷ []) (pos 0 ∷ pos 0 ∷ pos 0 ∷ pos 0 ∷ [])) (form (pos 4) (pos 0 ∷ pos 0 ∷ pos 0 ∷ []) (pos 0 ∷ pos 0 ∷ pos 0 ∷ pos 0 ∷ []))
+loop8-0 = loopOf 1 2 (pos 1) (form (pos 0) (pos 0 ∷ pos 0 ∷ pos 0 ∷ []) (pos 0 ∷ pos 0 ∷ pos 0 ∷ pos 0 ∷ [])) (form (pos 4) (pos 0 ∷ pos 0 ∷ pos 0 ∷ []) (pos 0 ∷ pos 0 ∷ pos 0 ∷ pos 0 ∷ []))
 
 abbrev loop8-9 : Loop
-loop8-9 = loopOf 4 6 1 (form (pos 0) (pos 0 ∷ pos 0 ∷ pos 0 ∷ []) (pos 0 ∷ pos 0 ∷ pos 0 ∷ pos 0 ∷ [])) (form (pos 0) (pos 1 ∷ pos 0 ∷ pos 0 ∷ []) (pos 0 ∷ pos 0 ∷ pos 0 ∷ pos 0 ∷ []))
+loop8-9 = loopOf 4 6 (pos 1) (form (pos 0) (pos 0 ∷ pos 0 ∷ pos 0 ∷ []) (pos 0 ∷ pos 0 ∷ pos 0 ∷ pos 0 ∷ [])) (form (pos 0) (pos 1 ∷ pos 0 ∷ pos 0 ∷ []) (pos 0 ∷ pos 0 ∷ pos 0 ∷ pos 0 ∷ []))
 
 abbrev records8 : List Record
 records8 = loopRecord loop8-0 ∷ choiceRecord ∷ workRecord 3 4 ∷ nextArmRecord ∷ workRecord 1 9 ∷ nextArmRecord ∷ workRecord 2 2 ∷ endRecord ∷ workRecord 3 5 ∷ loopRecord loop8-9 ∷ workRecord 0 1 ∷ endRecord ∷ endRecord ∷ []
@@ -211,10 +211,10 @@ states-8 = (refl, refl, refl, refl, refl, refl, refl)
 
 -- 9. loops in both arms of a sheet's choice, a work after it
 abbrev loop9-2 : Loop
-loop9-2 = loopOf 0 1 1 (form (pos 0) (pos 0 ∷ pos 0 ∷ pos 0 ∷ []) (pos 0 ∷ pos 0 ∷ pos 0 ∷ pos 0 ∷ [])) (form (pos 4) (pos 0 ∷ pos 0 ∷ pos 0 ∷ []) (pos 0 ∷ pos 0 ∷ pos 0 ∷ pos 0 ∷ []))
+loop9-2 = loopOf 0 1 (pos 1) (form (pos 0) (pos 0 ∷ pos 0 ∷ pos 0 ∷ []) (pos 0 ∷ pos 0 ∷ pos 0 ∷ pos 0 ∷ [])) (form (pos 4) (pos 0 ∷ pos 0 ∷ pos 0 ∷ []) (pos 0 ∷ pos 0 ∷ pos 0 ∷ pos 0 ∷ []))
 
 abbrev loop9-6 : Loop
-loop9-6 = loopOf 9 0 1 (form (pos 0) (pos 0 ∷ pos 0 ∷ pos 0 ∷ []) (pos 0 ∷ pos 0 ∷ pos 0 ∷ pos 0 ∷ [])) (form (pos 2) (pos 0 ∷ pos 0 ∷ pos 0 ∷ []) (pos 0 ∷ pos 0 ∷ pos 0 ∷ pos 0 ∷ []))
+loop9-6 = loopOf 9 0 (pos 1) (form (pos 0) (pos 0 ∷ pos 0 ∷ pos 0 ∷ []) (pos 0 ∷ pos 0 ∷ pos 0 ∷ pos 0 ∷ [])) (form (pos 2) (pos 0 ∷ pos 0 ∷ pos 0 ∷ []) (pos 0 ∷ pos 0 ∷ pos 0 ∷ pos 0 ∷ []))
 
 abbrev records9 : List Record
 records9 = workRecord 1 1 ∷ choiceRecord ∷ loopRecord loop9-2 ∷ workRecord 2 3 ∷ endRecord ∷ nextArmRecord ∷ loopRecord loop9-6 ∷ workRecord 1 7 ∷ endRecord ∷ workRecord 5 5 ∷ endRecord ∷ workRecord 2 8 ∷ []
@@ -230,13 +230,13 @@ states-9 = (refl, refl, refl, refl, refl)
 
 -- 10. a closed nest in a walked loop
 abbrev loop10-0 : Loop
-loop10-0 = loopOf 3 1 1 (form (pos 0) (pos 0 ∷ pos 0 ∷ pos 0 ∷ []) (pos 0 ∷ pos 0 ∷ pos 0 ∷ pos 0 ∷ [])) (form (pos 2) (pos 0 ∷ pos 0 ∷ pos 0 ∷ []) (pos 0 ∷ pos 0 ∷ pos 0 ∷ pos 0 ∷ []))
+loop10-0 = loopOf 3 1 (pos 1) (form (pos 0) (pos 0 ∷ pos 0 ∷ pos 0 ∷ []) (pos 0 ∷ pos 0 ∷ pos 0 ∷ pos 0 ∷ [])) (form (pos 2) (pos 0 ∷ pos 0 ∷ pos 0 ∷ []) (pos 0 ∷ pos 0 ∷ pos 0 ∷ pos 0 ∷ []))
 
 abbrev loop10-2 : Loop
-loop10-2 = loopOf 1 2 1 (form (pos 0) (pos 0 ∷ pos 0 ∷ pos 0 ∷ []) (pos 0 ∷ pos 0 ∷ pos 0 ∷ pos 0 ∷ [])) (form (pos 3) (pos 1 ∷ pos 0 ∷ pos 0 ∷ []) (pos 0 ∷ pos 0 ∷ pos 0 ∷ pos 0 ∷ []))
+loop10-2 = loopOf 1 2 (pos 1) (form (pos 0) (pos 0 ∷ pos 0 ∷ pos 0 ∷ []) (pos 0 ∷ pos 0 ∷ pos 0 ∷ pos 0 ∷ [])) (form (pos 3) (pos 1 ∷ pos 0 ∷ pos 0 ∷ []) (pos 0 ∷ pos 0 ∷ pos 0 ∷ pos 0 ∷ []))
 
 abbrev loop10-3 : Loop
-loop10-3 = loopOf 0 1 1 (form (pos 0) (pos 0 ∷ pos 0 ∷ pos 0 ∷ []) (pos 0 ∷ pos 0 ∷ pos 0 ∷ pos 0 ∷ [])) (form (pos 0) (pos 0 ∷ pos 1 ∷ pos 0 ∷ []) (pos 0 ∷ pos 0 ∷ pos 0 ∷ pos 0 ∷ []))
+loop10-3 = loopOf 0 1 (pos 1) (form (pos 0) (pos 0 ∷ pos 0 ∷ pos 0 ∷ []) (pos 0 ∷ pos 0 ∷ pos 0 ∷ pos 0 ∷ [])) (form (pos 0) (pos 0 ∷ pos 1 ∷ pos 0 ∷ []) (pos 0 ∷ pos 0 ∷ pos 0 ∷ pos 0 ∷ []))
 
 abbrev records10 : List Record
 records10 = loopRecord loop10-0 ∷ choiceRecord ∷ loopRecord loop10-2 ∷ loopRecord loop10-3 ∷ workRecord 1 2 ∷ endRecord ∷ endRecord ∷ nextArmRecord ∷ workRecord 6 60 ∷ endRecord ∷ endRecord ∷ []
@@ -265,10 +265,10 @@ states-10 = (refl, refl, refl, refl, refl, refl, refl, refl, refl, refl, refl, r
 
 -- 11. a loop with no trip in the middle, choices in it
 abbrev loop11-1 : Loop
-loop11-1 = loopOf 7 9 1 (form (pos 5) (pos 0 ∷ pos 0 ∷ pos 0 ∷ []) (pos 0 ∷ pos 0 ∷ pos 0 ∷ pos 0 ∷ [])) (form (pos 4) (pos 0 ∷ pos 0 ∷ pos 0 ∷ []) (pos 0 ∷ pos 0 ∷ pos 0 ∷ pos 0 ∷ []))
+loop11-1 = loopOf 7 9 (pos 1) (form (pos 5) (pos 0 ∷ pos 0 ∷ pos 0 ∷ []) (pos 0 ∷ pos 0 ∷ pos 0 ∷ pos 0 ∷ [])) (form (pos 4) (pos 0 ∷ pos 0 ∷ pos 0 ∷ []) (pos 0 ∷ pos 0 ∷ pos 0 ∷ pos 0 ∷ []))
 
 abbrev loop11-5 : Loop
-loop11-5 = loopOf 0 0 1 (form (pos 0) (pos 0 ∷ pos 0 ∷ pos 0 ∷ []) (pos 0 ∷ pos 0 ∷ pos 0 ∷ pos 0 ∷ [])) (form (pos 3) (pos 0 ∷ pos 0 ∷ pos 0 ∷ []) (pos 0 ∷ pos 0 ∷ pos 0 ∷ pos 0 ∷ []))
+loop11-5 = loopOf 0 0 (pos 1) (form (pos 0) (pos 0 ∷ pos 0 ∷ pos 0 ∷ []) (pos 0 ∷ pos 0 ∷ pos 0 ∷ pos 0 ∷ [])) (form (pos 3) (pos 0 ∷ pos 0 ∷ pos 0 ∷ []) (pos 0 ∷ pos 0 ∷ pos 0 ∷ pos 0 ∷ []))
 
 abbrev records11 : List Record
 records11 = workRecord 1 2 ∷ loopRecord loop11-1 ∷ choiceRecord ∷ workRecord 4 4 ∷ nextArmRecord ∷ loopRecord loop11-5 ∷ endRecord ∷ endRecord ∷ endRecord ∷ workRecord 10 20 ∷ []
@@ -282,16 +282,16 @@ states-11 = (refl, refl, refl)
 
 -- 12. two loops after one another, twice
 abbrev loop12-0 : Loop
-loop12-0 = loopOf 1 0 1 (form (pos 0) (pos 0 ∷ pos 0 ∷ pos 0 ∷ []) (pos 0 ∷ pos 0 ∷ pos 0 ∷ pos 0 ∷ [])) (form (pos 3) (pos 0 ∷ pos 0 ∷ pos 0 ∷ []) (pos 0 ∷ pos 0 ∷ pos 0 ∷ pos 0 ∷ []))
+loop12-0 = loopOf 1 0 (pos 1) (form (pos 0) (pos 0 ∷ pos 0 ∷ pos 0 ∷ []) (pos 0 ∷ pos 0 ∷ pos 0 ∷ pos 0 ∷ [])) (form (pos 3) (pos 0 ∷ pos 0 ∷ pos 0 ∷ []) (pos 0 ∷ pos 0 ∷ pos 0 ∷ pos 0 ∷ []))
 
 abbrev loop12-1 : Loop
-loop12-1 = loopOf 0 0 1 (form (pos 0) (pos 0 ∷ pos 0 ∷ pos 0 ∷ []) (pos 0 ∷ pos 0 ∷ pos 0 ∷ pos 0 ∷ [])) (form (pos 0) (pos 1 ∷ pos 0 ∷ pos 0 ∷ []) (pos 0 ∷ pos 0 ∷ pos 0 ∷ pos 0 ∷ []))
+loop12-1 = loopOf 0 0 (pos 1) (form (pos 0) (pos 0 ∷ pos 0 ∷ pos 0 ∷ []) (pos 0 ∷ pos 0 ∷ pos 0 ∷ pos 0 ∷ [])) (form (pos 0) (pos 1 ∷ pos 0 ∷ pos 0 ∷ []) (pos 0 ∷ pos 0 ∷ pos 0 ∷ pos 0 ∷ []))
 
 abbrev loop12-4 : Loop
-loop12-4 = loopOf 0 2 1 (form (pos 0) (negsuc 0 ∷ pos 0 ∷ pos 0 ∷ []) (pos 0 ∷ pos 0 ∷ pos 0 ∷ pos 0 ∷ [])) (form (pos 3) (pos 0 ∷ pos 0 ∷ pos 0 ∷ []) (pos 0 ∷ pos 0 ∷ pos 0 ∷ pos 0 ∷ []))
+loop12-4 = loopOf 0 2 (pos 1) (form (pos 0) (negsuc 0 ∷ pos 0 ∷ pos 0 ∷ []) (pos 0 ∷ pos 0 ∷ pos 0 ∷ pos 0 ∷ [])) (form (pos 3) (pos 0 ∷ pos 0 ∷ pos 0 ∷ []) (pos 0 ∷ pos 0 ∷ pos 0 ∷ pos 0 ∷ []))
 
 abbrev loop12-8 : Loop
-loop12-8 = loopOf 0 1 4 (form (pos 0) (pos 0 ∷ pos 0 ∷ pos 0 ∷ []) (pos 0 ∷ pos 0 ∷ pos 0 ∷ pos 0 ∷ [])) (form (pos 8) (pos 0 ∷ pos 0 ∷ pos 0 ∷ []) (pos 0 ∷ pos 0 ∷ pos 0 ∷ pos 0 ∷ []))
+loop12-8 = loopOf 0 1 (pos 4) (form (pos 0) (pos 0 ∷ pos 0 ∷ pos 0 ∷ []) (pos 0 ∷ pos 0 ∷ pos 0 ∷ pos 0 ∷ [])) (form (pos 8) (pos 0 ∷ pos 0 ∷ pos 0 ∷ []) (pos 0 ∷ pos 0 ∷ pos 0 ∷ pos 0 ∷ []))
 
 abbrev records12 : List Record
 records12 = loopRecord loop12-0 ∷ loopRecord loop12-1 ∷ workRecord 1 1 ∷ endRecord ∷ loopRecord loop12-4 ∷ workRecord 0 2 ∷ endRecord ∷ endRecord ∷ loopRecord loop12-8 ∷ workRecord 3 3 ∷ endRecord ∷ []
@@ -312,10 +312,10 @@ states-12 = (refl, refl, refl, refl, refl, refl, refl, refl, refl, refl)
 
 -- 13. choices in choices, empty arms, in a loop
 abbrev loop13-0 : Loop
-loop13-0 = loopOf 0 1 1 (form (pos 1) (pos 0 ∷ pos 0 ∷ pos 0 ∷ []) (pos 0 ∷ pos 0 ∷ pos 0 ∷ pos 0 ∷ [])) (form (pos 2) (pos 0 ∷ pos 0 ∷ pos 0 ∷ []) (pos 0 ∷ pos 0 ∷ pos 0 ∷ pos 0 ∷ []))
+loop13-0 = loopOf 0 1 (pos 1) (form (pos 1) (pos 0 ∷ pos 0 ∷ pos 0 ∷ []) (pos 0 ∷ pos 0 ∷ pos 0 ∷ pos 0 ∷ [])) (form (pos 2) (pos 0 ∷ pos 0 ∷ pos 0 ∷ []) (pos 0 ∷ pos 0 ∷ pos 0 ∷ pos 0 ∷ []))
 
 abbrev loop13-10 : Loop
-loop13-10 = loopOf 0 0 2 (form (pos 3) (pos 0 ∷ pos 0 ∷ pos 0 ∷ []) (pos 0 ∷ pos 0 ∷ pos 0 ∷ pos 0 ∷ [])) (form (pos 3) (pos 1 ∷ pos 0 ∷ pos 0 ∷ []) (pos 0 ∷ pos 0 ∷ pos 0 ∷ pos 0 ∷ []))
+loop13-10 = loopOf 0 0 (pos 2) (form (pos 3) (pos 0 ∷ pos 0 ∷ pos 0 ∷ []) (pos 0 ∷ pos 0 ∷ pos 0 ∷ pos 0 ∷ [])) (form (pos 3) (pos 1 ∷ pos 0 ∷ pos 0 ∷ []) (pos 0 ∷ pos 0 ∷ pos 0 ∷ pos 0 ∷ []))
 
 abbrev records13 : List Record
 records13 = loopRecord loop13-0 ∷ choiceRecord ∷ choiceRecord ∷ workRecord 2 3 ∷ nextArmRecord ∷ endRecord ∷ workRecord 1 1 ∷ nextArmRecord ∷ choiceRecord ∷ endRecord ∷ loopRecord loop13-10 ∷ workRecord 1 1 ∷ endRecord ∷ endRecord ∷ workRecord 4 4 ∷ endRecord ∷ []
@@ -333,13 +333,13 @@ states-13 = (refl, refl, refl, refl, refl, refl, refl)
 
 -- 14. three arms, the first with both extremes; a nest in the last, walked by the outer range
 abbrev loop14-0 : Loop
-loop14-0 = loopOf 0 1 1 (form (pos 0) (pos 0 ∷ pos 0 ∷ pos 0 ∷ []) (pos 0 ∷ pos 0 ∷ pos 0 ∷ pos 0 ∷ [])) (form (pos 3) (pos 0 ∷ pos 0 ∷ pos 0 ∷ []) (pos 0 ∷ pos 0 ∷ pos 0 ∷ pos 0 ∷ []))
+loop14-0 = loopOf 0 1 (pos 1) (form (pos 0) (pos 0 ∷ pos 0 ∷ pos 0 ∷ []) (pos 0 ∷ pos 0 ∷ pos 0 ∷ pos 0 ∷ [])) (form (pos 3) (pos 0 ∷ pos 0 ∷ pos 0 ∷ []) (pos 0 ∷ pos 0 ∷ pos 0 ∷ pos 0 ∷ []))
 
 abbrev loop14-6 : Loop
-loop14-6 = loopOf 0 0 1 (form (pos 0) (pos 0 ∷ pos 0 ∷ pos 0 ∷ []) (pos 0 ∷ pos 0 ∷ pos 0 ∷ pos 0 ∷ [])) (form (pos 2) (pos 0 ∷ pos 0 ∷ pos 0 ∷ []) (pos 0 ∷ pos 0 ∷ pos 0 ∷ pos 0 ∷ []))
+loop14-6 = loopOf 0 0 (pos 1) (form (pos 0) (pos 0 ∷ pos 0 ∷ pos 0 ∷ []) (pos 0 ∷ pos 0 ∷ pos 0 ∷ pos 0 ∷ [])) (form (pos 2) (pos 0 ∷ pos 0 ∷ pos 0 ∷ []) (pos 0 ∷ pos 0 ∷ pos 0 ∷ pos 0 ∷ []))
 
 abbrev loop14-7 : Loop
-loop14-7 = loopOf 0 0 1 (form (pos 0) (pos 1 ∷ pos 0 ∷ pos 0 ∷ []) (pos 0 ∷ pos 0 ∷ pos 0 ∷ pos 0 ∷ [])) (form (pos 1) (pos 0 ∷ pos 0 ∷ pos 0 ∷ []) (pos 0 ∷ pos 0 ∷ pos 0 ∷ pos 0 ∷ []))
+loop14-7 = loopOf 0 0 (pos 1) (form (pos 0) (pos 1 ∷ pos 0 ∷ pos 0 ∷ []) (pos 0 ∷ pos 0 ∷ pos 0 ∷ pos 0 ∷ [])) (form (pos 1) (pos 0 ∷ pos 0 ∷ pos 0 ∷ []) (pos 0 ∷ pos 0 ∷ pos 0 ∷ pos 0 ∷ []))
 
 abbrev records14 : List Record
 records14 = loopRecord loop14-0 ∷ choiceRecord ∷ workRecord 1 90 ∷ nextArmRecord ∷ workRecord 3 4 ∷ nextArmRecord ∷ loopRecord loop14-6 ∷ loopRecord loop14-7 ∷ workRecord 1 1 ∷ endRecord ∷ endRecord ∷ endRecord ∷ endRecord ∷ []
@@ -375,10 +375,10 @@ states-14 = (refl, refl, refl, refl, refl, refl, refl, refl, refl, refl, refl, r
 
 -- 15. skip in place of start, and start in place of skip
 abbrev loop15-1 : Loop
-loop15-1 = skipLoopOf 7 9 1 (form (pos 5) (pos 0 ∷ pos 0 ∷ pos 0 ∷ []) (pos 0 ∷ pos 0 ∷ pos 0 ∷ pos 0 ∷ [])) (form (pos 4) (pos 0 ∷ pos 0 ∷ pos 0 ∷ []) (pos 0 ∷ pos 0 ∷ pos 0 ∷ pos 0 ∷ [])) 3
+loop15-1 = skipLoopOf 7 9 (pos 1) (form (pos 5) (pos 0 ∷ pos 0 ∷ pos 0 ∷ []) (pos 0 ∷ pos 0 ∷ pos 0 ∷ pos 0 ∷ [])) (form (pos 4) (pos 0 ∷ pos 0 ∷ pos 0 ∷ []) (pos 0 ∷ pos 0 ∷ pos 0 ∷ pos 0 ∷ [])) 3
 
 abbrev loop15-4 : Loop
-loop15-4 = skipLoopOf 7 1 1 (form (pos 0) (pos 0 ∷ pos 0 ∷ pos 0 ∷ []) (pos 0 ∷ pos 0 ∷ pos 0 ∷ pos 0 ∷ [])) (form (pos 1) (pos 0 ∷ pos 0 ∷ pos 0 ∷ []) (pos 0 ∷ pos 0 ∷ pos 0 ∷ pos 0 ∷ [])) 3
+loop15-4 = skipLoopOf 7 1 (pos 1) (form (pos 0) (pos 0 ∷ pos 0 ∷ pos 0 ∷ []) (pos 0 ∷ pos 0 ∷ pos 0 ∷ pos 0 ∷ [])) (form (pos 1) (pos 0 ∷ pos 0 ∷ pos 0 ∷ []) (pos 0 ∷ pos 0 ∷ pos 0 ∷ pos 0 ∷ [])) 3
 
 abbrev records15 : List Record
 records15 = workRecord 1 2 ∷ loopRecord loop15-1 ∷ workRecord 1 1 ∷ endRecord ∷ loopRecord loop15-4 ∷ workRecord 1 1 ∷ endRecord ∷ workRecord 10 20 ∷ []
@@ -393,10 +393,10 @@ states-15 = (refl, refl, refl, refl)
 
 -- 16. walked: the inner loop pays skip in the first trip
 abbrev loop16-0 : Loop
-loop16-0 = loopOf 1 0 1 (form (pos 0) (pos 0 ∷ pos 0 ∷ pos 0 ∷ []) (pos 0 ∷ pos 0 ∷ pos 0 ∷ pos 0 ∷ [])) (form (pos 2) (pos 0 ∷ pos 0 ∷ pos 0 ∷ []) (pos 0 ∷ pos 0 ∷ pos 0 ∷ pos 0 ∷ []))
+loop16-0 = loopOf 1 0 (pos 1) (form (pos 0) (pos 0 ∷ pos 0 ∷ pos 0 ∷ []) (pos 0 ∷ pos 0 ∷ pos 0 ∷ pos 0 ∷ [])) (form (pos 2) (pos 0 ∷ pos 0 ∷ pos 0 ∷ []) (pos 0 ∷ pos 0 ∷ pos 0 ∷ pos 0 ∷ []))
 
 abbrev loop16-1 : Loop
-loop16-1 = skipLoopOf 5 1 1 (form (pos 0) (pos 0 ∷ pos 0 ∷ pos 0 ∷ []) (pos 0 ∷ pos 0 ∷ pos 0 ∷ pos 0 ∷ [])) (form (negsuc 0) (pos 1 ∷ pos 0 ∷ pos 0 ∷ []) (pos 0 ∷ pos 0 ∷ pos 0 ∷ pos 0 ∷ [])) 2
+loop16-1 = skipLoopOf 5 1 (pos 1) (form (pos 0) (pos 0 ∷ pos 0 ∷ pos 0 ∷ []) (pos 0 ∷ pos 0 ∷ pos 0 ∷ pos 0 ∷ [])) (form (negsuc 0) (pos 1 ∷ pos 0 ∷ pos 0 ∷ []) (pos 0 ∷ pos 0 ∷ pos 0 ∷ pos 0 ∷ [])) 2
 
 abbrev records16 : List Record
 records16 = loopRecord loop16-0 ∷ loopRecord loop16-1 ∷ workRecord 1 3 ∷ endRecord ∷ endRecord ∷ []
@@ -415,10 +415,10 @@ states-16 = (refl, refl, refl, refl, refl, refl, refl, refl)
 
 -- 17. closed: the inner loop, of kind 6, has a trip at least
 abbrev loop17-0 : Loop
-loop17-0 = skipLoopOf 0 0 1 (form (pos 0) (pos 0 ∷ pos 0 ∷ pos 0 ∷ []) (pos 0 ∷ pos 0 ∷ pos 0 ∷ pos 0 ∷ [])) (form (pos 3) (pos 0 ∷ pos 0 ∷ pos 0 ∷ []) (pos 0 ∷ pos 0 ∷ pos 0 ∷ pos 0 ∷ [])) 4
+loop17-0 = skipLoopOf 0 0 (pos 1) (form (pos 0) (pos 0 ∷ pos 0 ∷ pos 0 ∷ []) (pos 0 ∷ pos 0 ∷ pos 0 ∷ pos 0 ∷ [])) (form (pos 3) (pos 0 ∷ pos 0 ∷ pos 0 ∷ []) (pos 0 ∷ pos 0 ∷ pos 0 ∷ pos 0 ∷ [])) 4
 
 abbrev loop17-1 : Loop
-loop17-1 = skipLoopOf 5 0 1 (form (pos 0) (pos 0 ∷ pos 0 ∷ pos 0 ∷ []) (pos 0 ∷ pos 0 ∷ pos 0 ∷ pos 0 ∷ [])) (form (pos 0) (pos 1 ∷ pos 0 ∷ pos 0 ∷ []) (pos 0 ∷ pos 0 ∷ pos 0 ∷ pos 0 ∷ [])) 2
+loop17-1 = skipLoopOf 5 0 (pos 1) (form (pos 0) (pos 0 ∷ pos 0 ∷ pos 0 ∷ []) (pos 0 ∷ pos 0 ∷ pos 0 ∷ pos 0 ∷ [])) (form (pos 0) (pos 1 ∷ pos 0 ∷ pos 0 ∷ []) (pos 0 ∷ pos 0 ∷ pos 0 ∷ pos 0 ∷ [])) 2
 
 abbrev records17 : List Record
 records17 = loopRecord loop17-0 ∷ loopRecord loop17-1 ∷ workRecord 1 1 ∷ endRecord ∷ endRecord ∷ []
@@ -436,10 +436,10 @@ states-17 = (refl, refl, refl, refl, refl, refl, refl)
 
 -- 18. skip in an arm
 abbrev loop18-0 : Loop
-loop18-0 = loopOf 0 0 1 (form (pos 0) (pos 0 ∷ pos 0 ∷ pos 0 ∷ []) (pos 0 ∷ pos 0 ∷ pos 0 ∷ pos 0 ∷ [])) (form (pos 1) (pos 0 ∷ pos 0 ∷ pos 0 ∷ []) (pos 0 ∷ pos 0 ∷ pos 0 ∷ pos 0 ∷ []))
+loop18-0 = loopOf 0 0 (pos 1) (form (pos 0) (pos 0 ∷ pos 0 ∷ pos 0 ∷ []) (pos 0 ∷ pos 0 ∷ pos 0 ∷ pos 0 ∷ [])) (form (pos 1) (pos 0 ∷ pos 0 ∷ pos 0 ∷ []) (pos 0 ∷ pos 0 ∷ pos 0 ∷ pos 0 ∷ []))
 
 abbrev loop18-2 : Loop
-loop18-2 = skipLoopOf 9 0 1 (form (pos 0) (pos 0 ∷ pos 0 ∷ pos 0 ∷ []) (pos 0 ∷ pos 0 ∷ pos 0 ∷ pos 0 ∷ [])) (form (negsuc 0) (pos 1 ∷ pos 0 ∷ pos 0 ∷ []) (pos 0 ∷ pos 0 ∷ pos 0 ∷ pos 0 ∷ [])) 2
+loop18-2 = skipLoopOf 9 0 (pos 1) (form (pos 0) (pos 0 ∷ pos 0 ∷ pos 0 ∷ []) (pos 0 ∷ pos 0 ∷ pos 0 ∷ pos 0 ∷ [])) (form (negsuc 0) (pos 1 ∷ pos 0 ∷ pos 0 ∷ []) (pos 0 ∷ pos 0 ∷ pos 0 ∷ pos 0 ∷ [])) 2
 
 abbrev records18 : List Record
 records18 = loopRecord loop18-0 ∷ choiceRecord ∷ loopRecord loop18-2 ∷ workRecord 1 1 ∷ endRecord ∷ nextArmRecord ∷ workRecord 4 4 ∷ endRecord ∷ endRecord ∷ []
@@ -454,23 +454,67 @@ pub states-18 :
 unfolding computes
 states-18 = (refl, refl, refl, refl, refl, refl)
 
--- 19. parameters, a negative factor, strides
+-- 19. closed, both directions: i 2 down to 0, j i to 3
 abbrev loop19-0 : Loop
-loop19-0 = loopOf 0 0 3 (form (pos 0) (pos 0 ∷ pos 0 ∷ pos 0 ∷ []) (pos 1 ∷ pos 0 ∷ pos 0 ∷ pos 0 ∷ [])) (form (pos 0) (pos 0 ∷ pos 0 ∷ pos 0 ∷ []) (pos 1 ∷ pos 0 ∷ pos 2 ∷ pos 0 ∷ []))
+loop19-0 = loopOf 1 1 (negsuc 0) (form (pos 2) (pos 0 ∷ pos 0 ∷ pos 0 ∷ []) (pos 0 ∷ pos 0 ∷ pos 0 ∷ pos 0 ∷ [])) (form (pos 0) (pos 0 ∷ pos 0 ∷ pos 0 ∷ []) (pos 0 ∷ pos 0 ∷ pos 0 ∷ pos 0 ∷ []))
 
-abbrev loop19-2 : Loop
-loop19-2 = loopOf 2 0 2 (form (pos 1) (negsuc 0 ∷ pos 0 ∷ pos 0 ∷ []) (pos 0 ∷ pos 0 ∷ pos 0 ∷ pos 0 ∷ [])) (form (pos 20) (negsuc 0 ∷ pos 0 ∷ pos 0 ∷ []) (pos 0 ∷ negsuc 0 ∷ pos 0 ∷ pos 0 ∷ []))
+abbrev loop19-1 : Loop
+loop19-1 = loopOf 2 0 (pos 1) (form (pos 0) (pos 1 ∷ pos 0 ∷ pos 0 ∷ []) (pos 0 ∷ pos 0 ∷ pos 0 ∷ pos 0 ∷ [])) (form (pos 3) (pos 0 ∷ pos 0 ∷ pos 0 ∷ []) (pos 0 ∷ pos 0 ∷ pos 0 ∷ pos 0 ∷ []))
 
 abbrev records19 : List Record
-records19 = loopRecord loop19-0 ∷ workRecord 1 2 ∷ loopRecord loop19-2 ∷ workRecord 5 6 ∷ endRecord ∷ endRecord ∷ []
+records19 = loopRecord loop19-0 ∷ loopRecord loop19-1 ∷ workRecord 1 2 ∷ endRecord ∷ endRecord ∷ []
 
 pub states-19 :
-    (stateAfter 0 records19 (negsuc 3 ∷ pos 7 ∷ pos 3 ∷ pos 0 ∷ []) ≡ state (drop 0 records19) (bounds 0 0) [] 0)
-    × (stateAfter 1 records19 (negsuc 3 ∷ pos 7 ∷ pos 3 ∷ pos 0 ∷ []) ≡ state (drop 1 records19) (bounds 0 0) (loopFrame loop19-0 (drop 1 records19) 0 [] (bounds 0 0) ∷ []) 1)
-    × (stateAfter 2 records19 (negsuc 3 ∷ pos 7 ∷ pos 3 ∷ pos 0 ∷ []) ≡ state (drop 3 records19) (bounds 0 0) (loopFrame loop19-2 (drop 3 records19) 0 [] (bounds 3 4) ∷ loopFrame loop19-0 (drop 1 records19) 0 [] (bounds 0 0) ∷ []) 2)
-    × (stateAfter 3 records19 (negsuc 3 ∷ pos 7 ∷ pos 3 ∷ pos 0 ∷ []) ≡ state (drop 1 records19) (bounds 0 0) (loopFrame loop19-0 (drop 1 records19) 1 (bounds 38 46 ∷ []) (bounds 0 0) ∷ []) 3)
-    × (stateAfter 4 records19 (negsuc 3 ∷ pos 7 ∷ pos 3 ∷ pos 0 ∷ []) ≡ state (drop 3 records19) (bounds 0 0) (loopFrame loop19-2 (drop 3 records19) 0 [] (bounds 3 4) ∷ loopFrame loop19-0 (drop 1 records19) 1 (bounds 38 46 ∷ []) (bounds 0 0) ∷ []) 4)
-    × (stateAfter 5 records19 (negsuc 3 ∷ pos 7 ∷ pos 3 ∷ pos 0 ∷ []) ≡ state (drop 6 records19) (bounds 114 138) [] 4)
-    × (stateAfter 6 records19 (negsuc 3 ∷ pos 7 ∷ pos 3 ∷ pos 0 ∷ []) ≡ state (drop 6 records19) (bounds 114 138) [] 4)
+    (stateAfter 0 records19 zeroParameters ≡ state (drop 0 records19) (bounds 0 0) [] 0)
+    × (stateAfter 1 records19 zeroParameters ≡ state (drop 1 records19) (bounds 0 0) (loopFrame loop19-0 (drop 1 records19) 0 [] (bounds 1 1) ∷ []) 1)
+    × (stateAfter 2 records19 zeroParameters ≡ state (drop 2 records19) (bounds 0 0) (loopFrame loop19-1 (drop 2 records19) 0 [] (bounds 2 2) ∷ loopFrame loop19-0 (drop 1 records19) 0 [] (bounds 1 1) ∷ []) 2)
+    × (stateAfter 3 records19 zeroParameters ≡ state (drop 1 records19) (bounds 0 0) (loopFrame loop19-0 (drop 1 records19) 1 (bounds 5 7 ∷ []) (bounds 1 1) ∷ []) 3)
+    × (stateAfter 4 records19 zeroParameters ≡ state (drop 2 records19) (bounds 0 0) (loopFrame loop19-1 (drop 2 records19) 0 [] (bounds 2 2) ∷ loopFrame loop19-0 (drop 1 records19) 1 (bounds 5 7 ∷ []) (bounds 1 1) ∷ []) 4)
+    × (stateAfter 5 records19 zeroParameters ≡ state (drop 5 records19) (bounds 19 28) [] 4)
+    × (stateAfter 6 records19 zeroParameters ≡ state (drop 5 records19) (bounds 19 28) [] 4)
 unfolding computes
 states-19 = (refl, refl, refl, refl, refl, refl, refl)
+
+-- 20. walked, both directions: i 0 to 2, j i down to 0 by 2
+abbrev loop20-0 : Loop
+loop20-0 = loopOf 0 0 (pos 1) (form (pos 0) (pos 0 ∷ pos 0 ∷ pos 0 ∷ []) (pos 0 ∷ pos 0 ∷ pos 0 ∷ pos 0 ∷ [])) (form (pos 2) (pos 0 ∷ pos 0 ∷ pos 0 ∷ []) (pos 0 ∷ pos 0 ∷ pos 0 ∷ pos 0 ∷ []))
+
+abbrev loop20-1 : Loop
+loop20-1 = loopOf 1 3 (negsuc 1) (form (pos 0) (pos 1 ∷ pos 0 ∷ pos 0 ∷ []) (pos 0 ∷ pos 0 ∷ pos 0 ∷ pos 0 ∷ [])) (form (pos 0) (pos 0 ∷ pos 0 ∷ pos 0 ∷ []) (pos 0 ∷ pos 0 ∷ pos 0 ∷ pos 0 ∷ []))
+
+abbrev records20 : List Record
+records20 = loopRecord loop20-0 ∷ loopRecord loop20-1 ∷ workRecord 1 2 ∷ endRecord ∷ endRecord ∷ []
+
+pub states-20 :
+    (stateAfter 0 records20 zeroParameters ≡ state (drop 0 records20) (bounds 0 0) [] 0)
+    × (stateAfter 1 records20 zeroParameters ≡ state (drop 1 records20) (bounds 0 0) (loopFrame loop20-0 (drop 1 records20) 0 [] (bounds 0 0) ∷ []) 1)
+    × (stateAfter 2 records20 zeroParameters ≡ state (drop 2 records20) (bounds 0 0) (loopFrame loop20-1 (drop 2 records20) 0 [] (bounds 1 1) ∷ loopFrame loop20-0 (drop 1 records20) 0 [] (bounds 0 0) ∷ []) 2)
+    × (stateAfter 3 records20 zeroParameters ≡ state (drop 1 records20) (bounds 0 0) (loopFrame loop20-0 (drop 1 records20) 1 (bounds 5 6 ∷ []) (bounds 0 0) ∷ []) 3)
+    × (stateAfter 4 records20 zeroParameters ≡ state (drop 2 records20) (bounds 0 0) (loopFrame loop20-1 (drop 2 records20) 0 [] (bounds 1 1) ∷ loopFrame loop20-0 (drop 1 records20) 1 (bounds 5 6 ∷ []) (bounds 0 0) ∷ []) 4)
+    × (stateAfter 5 records20 zeroParameters ≡ state (drop 1 records20) (bounds 0 0) (loopFrame loop20-0 (drop 1 records20) 2 (bounds 10 12 ∷ []) (bounds 0 0) ∷ []) 5)
+    × (stateAfter 6 records20 zeroParameters ≡ state (drop 2 records20) (bounds 0 0) (loopFrame loop20-1 (drop 2 records20) 0 [] (bounds 1 1) ∷ loopFrame loop20-0 (drop 1 records20) 2 (bounds 10 12 ∷ []) (bounds 0 0) ∷ []) 6)
+    × (stateAfter 7 records20 zeroParameters ≡ state (drop 5 records20) (bounds 19 23) [] 6)
+    × (stateAfter 8 records20 zeroParameters ≡ state (drop 5 records20) (bounds 19 23) [] 6)
+unfolding computes
+states-20 = (refl, refl, refl, refl, refl, refl, refl, refl, refl)
+
+-- 21. parameters, a negative factor, strides
+abbrev loop21-0 : Loop
+loop21-0 = loopOf 0 0 (pos 3) (form (pos 0) (pos 0 ∷ pos 0 ∷ pos 0 ∷ []) (pos 1 ∷ pos 0 ∷ pos 0 ∷ pos 0 ∷ [])) (form (pos 0) (pos 0 ∷ pos 0 ∷ pos 0 ∷ []) (pos 1 ∷ pos 0 ∷ pos 2 ∷ pos 0 ∷ []))
+
+abbrev loop21-2 : Loop
+loop21-2 = loopOf 2 0 (pos 2) (form (pos 1) (negsuc 0 ∷ pos 0 ∷ pos 0 ∷ []) (pos 0 ∷ pos 0 ∷ pos 0 ∷ pos 0 ∷ [])) (form (pos 20) (negsuc 0 ∷ pos 0 ∷ pos 0 ∷ []) (pos 0 ∷ negsuc 0 ∷ pos 0 ∷ pos 0 ∷ []))
+
+abbrev records21 : List Record
+records21 = loopRecord loop21-0 ∷ workRecord 1 2 ∷ loopRecord loop21-2 ∷ workRecord 5 6 ∷ endRecord ∷ endRecord ∷ []
+
+pub states-21 :
+    (stateAfter 0 records21 (negsuc 3 ∷ pos 7 ∷ pos 3 ∷ pos 0 ∷ []) ≡ state (drop 0 records21) (bounds 0 0) [] 0)
+    × (stateAfter 1 records21 (negsuc 3 ∷ pos 7 ∷ pos 3 ∷ pos 0 ∷ []) ≡ state (drop 1 records21) (bounds 0 0) (loopFrame loop21-0 (drop 1 records21) 0 [] (bounds 0 0) ∷ []) 1)
+    × (stateAfter 2 records21 (negsuc 3 ∷ pos 7 ∷ pos 3 ∷ pos 0 ∷ []) ≡ state (drop 3 records21) (bounds 0 0) (loopFrame loop21-2 (drop 3 records21) 0 [] (bounds 3 4) ∷ loopFrame loop21-0 (drop 1 records21) 0 [] (bounds 0 0) ∷ []) 2)
+    × (stateAfter 3 records21 (negsuc 3 ∷ pos 7 ∷ pos 3 ∷ pos 0 ∷ []) ≡ state (drop 1 records21) (bounds 0 0) (loopFrame loop21-0 (drop 1 records21) 1 (bounds 38 46 ∷ []) (bounds 0 0) ∷ []) 3)
+    × (stateAfter 4 records21 (negsuc 3 ∷ pos 7 ∷ pos 3 ∷ pos 0 ∷ []) ≡ state (drop 3 records21) (bounds 0 0) (loopFrame loop21-2 (drop 3 records21) 0 [] (bounds 3 4) ∷ loopFrame loop21-0 (drop 1 records21) 1 (bounds 38 46 ∷ []) (bounds 0 0) ∷ []) 4)
+    × (stateAfter 5 records21 (negsuc 3 ∷ pos 7 ∷ pos 3 ∷ pos 0 ∷ []) ≡ state (drop 6 records21) (bounds 114 138) [] 4)
+    × (stateAfter 6 records21 (negsuc 3 ∷ pos 7 ∷ pos 3 ∷ pos 0 ∷ []) ≡ state (drop 6 records21) (bounds 114 138) [] 4)
+unfolding computes
+states-21 = (refl, refl, refl, refl, refl, refl, refl)

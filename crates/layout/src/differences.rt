@@ -1,4 +1,4 @@
-// Differences: of each loop its stride, its D where every counter is 0, and what a trip of each loop around it adds to D, in two's complement.
+// Differences: of each loop the size of its stride, its D where every counter is 0, and what a trip of each loop around it adds to D, in two's complement.
 ghost use mathlib.Core.Path.{_≡_};
 ghost use Prim.Native.Nat.{_+_, _<_, _≤_};
 ghost use lib.ListN.{length};

@@ -10,14 +10,14 @@ use lib.Dec.{eqb, ltb}
 use lib.Seq.{getD-at, getD-set-other, getD-set-same, take-suc-set}
 use lib.Signed.{leZ}
 use lib.IntN.{pos, ℤ}
-use Rattle.whole.specs.Integer.{floorRemainder, larger}
+use Rattle.whole.specs.Integer.{floorRemainder}
 use Rattle.whole.proofs.Dot.{dot-nil}
 use Rattle.meaning.specs.Form.{Form, value}
-use Rattle.meaning.specs.Record.{Loop, Open, loopDepth, openLoop}
-use Rattle.meaning.specs.Range.{Range, differenceRange, indexRange, innerRanges, range, ceiling}
+use Rattle.meaning.specs.Record.{Loop, strideSize, countsDown, Open, loopDepth, openLoop}
+use Rattle.meaning.specs.Range.{Range, differenceRange, indexRange, innerRanges, range, rangeDown, rangeUp, ceiling}
 use Rattle.meaning.specs.Closed.{askedDifference, push, pushInner, pushOwn}
 use Rattle.meaning.specs.Limits.{depthLimit}
-use Rattle.meaning.specs.Time.{difference, signedStride, strideSize, tripCount}
+use Rattle.meaning.specs.Time.{difference, tripCount}
 use Rattle.meaning.proofs.Accepted.{LoopInRange}
 use Rattle.form.specs.Forms.{folded, pushOf, rangeWithin, valueAt, rangesBetween}
 use Rattle.form.proofs.FormLaws.{NumbersWithin, Plain, RangesWithin, push-folded, range-folded, ranges-set, value-folded}
@@ -262,17 +262,17 @@ module _ (ps : List ℤ) (os : List Open) (e : Enclosing) (a : Around) (pushes :
         (omega (arith, length-map (e .pushes) (pushInner l), open-loops .pushCount))
         ∙ getD-mapped (pushInner l) (e .pushes) m (omega (arith, open-loops .pushCount))
 
-    own-getD : getD pushesInside depth [] ≡ replicate depth (pos zero) ++ (signedStride l ∷ [])
+    own-getD : getD pushesInside depth [] ≡ replicate depth (pos zero) ++ (l .stride ∷ [])
     unfolding pushOwn
     own-getD =
         getD-at (map (pushInner l) (e .pushes)) (pushOwn l (length (e .ranges))) [] [] depth (length-map (e .pushes) (pushInner l) ∙ open-loops .pushCount)
-        ∙ ap (λ (n : ℕ). replicate n (pos zero) ++ (signedStride l ∷ [])) (open-loops .rangeCount)
+        ∙ ap (λ (n : ℕ). replicate n (pos zero) ++ (l .stride ∷ [])) (open-loops .rangeCount)
 
     abbrev added : ℕ → List ℤ
     added m = set (getD pushes m []) depth (pushOf (folded ps (l .lower)) (getD pushes m []))
 
     abbrev own : List ℤ
-    own = set noNumbers depth (signedStride l)
+    own = set noNumbers depth (l .stride)
 
     abbrev entered : List (List ℤ)
     entered = set (set (set (set pushes 0 (added 0)) 1 (added 1)) 2 (added 2)) depth own
@@ -285,7 +285,7 @@ module _ (ps : List ℤ) (os : List Open) (e : Enclosing) (a : Around) (pushes :
             let same = eqb-true m depth t in
             ap (λ (n : ℕ). take (suc depth) (getD entered n [])) same
             ∙ ap (take (suc depth)) (next-own pushes (h .pushesLong) (added 0) (added 1) (added 2) own depth shallow)
-            ∙ zeros-set depth (signedStride l) shallow ∙ sym own-getD
+            ∙ zeros-set depth (l .stride) shallow ∙ sym own-getD
             ∙ ap (λ (n : ℕ). getD pushesInside n []) (sym same)
         go false t =
             let inside : m < depth = omega (arith, eqb-false m depth t, less) in
@@ -294,18 +294,13 @@ module _ (ps : List ℤ) (os : List Open) (e : Enclosing) (a : Around) (pushes :
             ∙ ap₂ (λ (xs : List ℤ) (z : ℤ). xs ++ (z ∷ [])) (h .rows m inside) (push-held (l .lower) plain-lower m inside)
             ∙ sym (inner-getD m inside)
 
-    pub holding-entered : Holding (openLoop ∷ os) (enter ps l e) (aroundWith (folded ps (l .lower)) (folded ps (l .upper)) depth a)
-        (pushesWith (folded ps (l .lower)) (signedStride l) depth pushes)
+    pub holding-entered : Holding (openLoop ∷ os) (enter ps l e) (aroundWith (countsDown l) (folded ps (l .lower)) (folded ps (l .upper)) depth a)
+        (pushesWith (folded ps (l .lower)) (l .stride) depth pushes)
     unfolding loopDepth enter innerRanges indexRange aroundWith pushesWith ownRow rowWith
     holding-entered =
         let low = range-held (l .lower) plain-lower in
         let up = range-held (l .upper) plain-upper in
-        let lowWithin : Range = rangeWithin (folded ps (l .lower)) (a .lo) (a .hi) in
-        let upWithin : Range = rangeWithin (folded ps (l .upper)) (a .lo) (a .hi) in
-        let index : _≡_ {A = Range}
-        (record { lo = lowWithin .lo; hi = larger (lowWithin .lo) (upWithin .hi) })
-        (record { lo = range ps (l .lower) (e .ranges) .lo; hi = larger (range ps (l .lower) (e .ranges) .lo) (range ps (l .upper) (e .ranges) .hi) }) =
-        λ t. record { lo = low t .lo; hi = larger (low t .lo) (up t .hi) } in
+        let index = ap₂ (λ (lower : Range) (upper : Range). cond (countsDown l) rangeDown rangeUp lower upper) low up in
         record {
           ranges = ranges-set (a .lo) (a .hi) depth _ _ (omega (arith, h .loLong)) (omega (arith, h .hiLong))
               ∙ ap₂ (λ (xs : List Range) (r : Range). xs ++ (r ∷ [])) (h .ranges) index;

@@ -9,13 +9,13 @@ use lib.IntN.{_*ℤ_, _+ℤ_, _-ℤ_, natAbs, negsuc, negℤ, pos, ℤ}
 use lib.Dec.{T, ltb, ltb→lt}
 use lib.ListN.{drop, length, replicate, take}
 use lib.Signed.{leZ, mag, natAbs-le}
-use Rattle.whole.specs.Integer.{dot, larger, subtractLists}
+use Rattle.whole.specs.Integer.{dot, subtractLists}
 use Rattle.whole.proofs.Order.{AtMost-trans, natAbs-above, natAbs-add, natAbs-below, natAbs-between, natAbs-mul-le, natAbs-neg}
 use Rattle.meaning.specs.Form.{Form, allZero, factorsFit, isZero, subtract, value}
-use Rattle.meaning.specs.Record.{Loop, Record, choiceRecord, endRecord, fieldsInRange, loopDepth, loopRecord, nextArmRecord, openChoice, openLoop, workRecord, Open}
-use Rattle.meaning.specs.Range.{Range, addRange, differenceRange, dotRange, exactRange, indexRange, innerRanges, range, scale}
+use Rattle.meaning.specs.Record.{Loop, strideSize, countsDown, Record, choiceRecord, endRecord, fieldsInRange, loopDepth, loopRecord, nextArmRecord, openChoice, openLoop, workRecord, Open}
+use Rattle.meaning.specs.Range.{Range, addRange, differenceRange, dotRange, exactRange, indexRange, innerRanges, range, rangeDown, rangeUp, scale}
 use Rattle.meaning.specs.Limits.{constantHalf, factorHalf, indexFactors, parameterFactors, strideLimit}
-use Rattle.meaning.specs.Time.{difference, signedStride, strideSize}
+use Rattle.meaning.specs.Time.{differenceUp, differenceDown, difference}
 use Rattle.meaning.specs.Number.{hasPattern}
 use Rattle.meaning.specs.Closed.{push, pushInner, pushOwn}
 use Rattle.meaning.proofs.Accepted.{FormInRange, InPlace, LoopInRange, loop-in-range}
@@ -183,18 +183,26 @@ subtract-small c d m n f g h i = record {
 }
 
 -- a loop's stride, and D's form
-pub stride-small : {depth : ℕ} {l : Loop} → LoopInRange depth l → natAbs (signedStride l) ≤ strideLimit
-unfolding signedStride
+pub stride-small : {depth : ℕ} {l : Loop} → LoopInRange depth l → natAbs (l .stride) ≤ strideLimit
+unfolding strideSize
 stride-small i = i .strideSmall
 
 pub stride-moves : {depth : ℕ} {l : Loop} → LoopInRange depth l → 0 < strideSize l
-unfolding strideSize
 stride-moves i = i .moves
 
 difference-small : {depth : ℕ} {l : Loop} → LoopInRange depth l → SmallForm (2 * constantHalf) (2 * factorHalf) (difference l)
 unfolding difference
-difference-small {depth} {l} i =
-    subtract-small constantHalf constantHalf factorHalf factorHalf (l .upper) (l .lower) (form-small depth (l .upper) (i .upperInRange)) (form-small depth (l .lower) (i .lowerInRange))
+difference-small {depth} {l} i = go (countsDown l)
+  where
+    low : SmallForm constantHalf factorHalf (l .lower)
+    low = form-small depth (l .lower) (i .lowerInRange)
+
+    high : SmallForm constantHalf factorHalf (l .upper)
+    high = form-small depth (l .upper) (i .upperInRange)
+
+    go : (down : Bool) → SmallForm (2 * constantHalf) (2 * factorHalf) (cond down (differenceDown (l .lower) (l .upper)) (differenceUp (l .lower) (l .upper)))
+    go true = subtract-small constantHalf constantHalf factorHalf factorHalf (l .lower) (l .upper) low high
+    go false = subtract-small constantHalf constantHalf factorHalf factorHalf (l .upper) (l .lower) high low
 
 -- four parameters of 16 bits
 unfoldable pub SmallParameters : List ℤ → Type 0
@@ -262,10 +270,15 @@ enclosed-difference (suc depth) (x ∷ xs) (y ∷ ys) e t u = enclosed-differenc
 module _ (ps : List ℤ) (small : SmallParameters ps) {depth : ℕ} where
   enclosed-apart : (l : Loop) → LoopInRange depth l → T (allZero (drop depth (difference l .index)))
   unfolding difference subtract
-  enclosed-apart l i =
-      let s = i .upperInRange in
-      let t = i .lowerInRange in
-      enclosed-difference depth (l .upper .index) (l .lower .index) (s .indexCount ∙ sym (t .indexCount)) (s .notEnclosingZero) (t .notEnclosingZero)
+  enclosed-apart l i = go (countsDown l)
+    where
+      apart : {f g : Form} → FormInRange depth f → FormInRange depth g → T (allZero (drop depth (subtractLists (f .index) (g .index))))
+      apart {f} {g} s t =
+          enclosed-difference depth (f .index) (g .index) (s .indexCount ∙ sym (t .indexCount)) (s .notEnclosingZero) (t .notEnclosingZero)
+
+      go : (down : Bool) → T (allZero (drop depth (cond down (differenceDown (l .lower) (l .upper)) (differenceUp (l .lower) (l .upper)) .index)))
+      go true = apart (i .lowerInRange) (i .upperInRange)
+      go false = apart (i .upperInRange) (i .lowerInRange)
 
   pub plain : (f : Form) → FormInRange depth f → Plain ps depth f
   plain f s = record {
@@ -351,23 +364,24 @@ enter-pushes l (p ∷ pushes) own s (q, h) r =
     (rising-append natAbs strideLimit p (push (l .lower) p) q (omega arith), enter-pushes l pushes own s h r)
 
 module _ (ps : List ℤ) (small : SmallParameters ps) where
-  -- the larger of two ends
-  larger-size : (a b : ℤ) → natAbs (larger a b) ≤ max (natAbs a) (natAbs b)
-  larger-size a b = go (leZ a b)
-    where
-      go : (c : Bool) → natAbs (cond c b a) ≤ max (natAbs a) (natAbs b)
-      go true = omega arith
-      go false = omega arith
+  -- one of two ends
+  one-size : (c : Bool) (a b : ℤ) → natAbs (cond c b a) ≤ max (natAbs a) (natAbs b)
+  one-size true a b = omega arith
+  one-size false a b = omega arith
+
+  -- an index's range reaches no further than those of its loop's forms
+  index-reach : (down : Bool) (lower upper : Range) → reach (cond down rangeDown rangeUp lower upper) ≤ max (reach lower) (reach upper)
+  unfolding rangeDown rangeUp
+  index-reach true lower upper = omega (arith, one-size (leZ (upper .lo) (lower .hi)) (lower .hi) (upper .lo))
+  index-reach false lower upper = omega (arith, one-size (leZ (lower .lo) (upper .hi)) (lower .lo) (upper .hi))
 
   index-size : (l : Loop) (ranges : List Range) → SmallForm constantHalf factorHalf (l .lower) → SmallForm constantHalf factorHalf (l .upper) →
       reach (indexRange ps l ranges) ≤ fixedLimit + 128 * sum (take indexFactors (map reach ranges))
   unfolding indexRange
   index-size l ranges s t =
-      let lo : ℤ = range ps (l .lower) ranges .lo in
-      let hi : ℤ = range ps (l .upper) ranges .hi in
       let p = range-size ps small constantHalf factorHalf (l .lower) ranges s in
       let q = range-size ps small constantHalf factorHalf (l .upper) ranges t in
-      omega (arith, larger-size lo hi)
+      omega (arith, index-reach (countsDown l) (range ps (l .lower) ranges) (range ps (l .upper) ranges))
 
   pub small-enter : (l : Loop) (e : Enclosing) (depth : ℕ) → LoopInRange depth l → SmallEnclosing e → SmallEnclosing (enter ps l e)
   unfolding enter innerRanges pushOwn
@@ -385,7 +399,7 @@ module _ (ps : List ℤ) (small : SmallParameters ps) where
             let p = value-size ps small constantHalf factorHalf (l .lower) (e .starts) s in
             let q = sum-take indexFactors starts in
             rising-append natAbs fixedLimit (e .starts) (value ps (l .lower) (e .starts)) (h .startsSmall) (omega arith);
-        pushesSmall = enter-pushes l (e .pushes) (pushOwn l (length (e .ranges))) s (h .pushesSmall) (own-rising (length (e .ranges)) strideLimit (signedStride l) (stride-small i));
+        pushesSmall = enter-pushes l (e .pushes) (pushOwn l (length (e .ranges))) s (h .pushesSmall) (own-rising (length (e .ranges)) strideLimit (l .stride) (stride-small i));
       }
 
   -- the open loops after records in place

@@ -12,10 +12,9 @@ use lib.Seq.{drop-cons, paste, take-suc}
 use lib.Dec.{ltb, eqb}
 use lib.IntN.{ℤ}
 use Rattle.meaning.specs.Form.{Form}
-use Rattle.meaning.specs.Record.{Loop, Open, Record, endRecord, kind, kindNumber, loopDepth, loopRecord, openLoop, sheetLength, decodeRecord, loopKind}
+use Rattle.meaning.specs.Record.{Loop, countsDown, Open, Record, endRecord, kind, kindNumber, loopDepth, loopRecord, openLoop, sheetLength, decodeRecord, loopKind}
 use Rattle.meaning.specs.Limits.{ceilingLimit, depthLimit}
 use Rattle.meaning.specs.Report.{orElse}
-use Rattle.meaning.specs.Time.{signedStride}
 use Rattle.meaning.specs.Reader.{bodyAt}
 use Rattle.meaning.proofs.Accepted.{LoopInRange}
 use Rattle.meaning.proofs.Logic.{none-is-not-some}
@@ -240,8 +239,8 @@ module _ {sheet : List ℕ} {count : ℕ} {ps : List ℤ} {words₀ facts₀ wor
       in-range : LoopInRange (loopDepth os) l × (loopDepth os < depthLimit)
       in-range = loop-placed sheet ps n there l (found .1)
 
-      pub stride-range : 0 < forms .stride
-      stride-range = omega (arith, forms-of .strideIs, stride-moves (in-range .0))
+      pub stride-range : 0 < forms .size
+      stride-range = omega (arith, forms-of .sizeIs, stride-moves (in-range .0))
 
       depth-is : here .depth ≡ loopDepth os
       unfolding nestingOf
@@ -263,19 +262,19 @@ module _ {sheet : List ℕ} {count : ℕ} {ps : List ℤ} {words₀ facts₀ wor
       unfolding factsAt
       fact-is = fact-at sheet ps n there ∙ ap (factsAt ps os es) (found .1)
 
-      ceiling-is : ceilingWithin (wideForm (forms .difference)) (forms .stride) a ≡ fact .ceiling
+      ceiling-is : ceilingWithin (wideForm (forms .difference)) (forms .size) a ≡ fact .ceiling
       ceiling-is =
-          ap₂ (λ (f : Form) (m : ℕ). ceilingWithin f m a) (forms-of .differenceIs) (forms-of .strideIs)
+          ap₂ (λ (f : Form) (m : ℕ). ceilingWithin f m a) (forms-of .differenceIs) (forms-of .sizeIs)
           ∙ ceiling-of-loop ps os es a pushes (g .holding) small (open-loops-at sheet ps n there) l (in-range .0) (in-range .1)
 
       over-rest : overCeiling allRows allFacts
-          ≡ orElse (ltb ceilingLimit (ceilingWithin (wideForm (forms .difference)) (forms .stride) a)) (getD allRows n blankRow .offset)
+          ≡ orElse (ltb ceilingLimit (ceilingWithin (wideForm (forms .difference)) (forms .size) a)) (getD allRows n blankRow .offset)
           (overCeiling (drop (suc n) allRows) (drop (suc n) allFacts))
       over-rest =
           g .noneOver ∙ over-some allRows allFacts n in-rows in-facts fact fact-is
           ∙ ap (λ (m : ℕ). orElse (ltb ceilingLimit m) (getD allRows n blankRow .offset) (overCeiling (drop (suc n) allRows) (drop (suc n) allFacts))) (sym ceiling-is)
 
-      module _ {over : Bool} (overIs : over ≡ ltb ceilingLimit (ceilingWithin (wideForm (forms .difference)) (forms .stride) a)) where
+      module _ {over : Bool} (overIs : over ≡ ltb ceilingLimit (ceilingWithin (wideForm (forms .difference)) (forms .size) a)) where
         over-now : overCeiling allRows allFacts ≡ orElse over (getD allRows n blankRow .offset) (overCeiling (drop (suc n) allRows) (drop (suc n) allFacts))
         over-now =
             over-rest
@@ -298,8 +297,8 @@ module _ {sheet : List ℕ} {count : ℕ} {ps : List ℤ} {words₀ facts₀ wor
             ∙ sym (append-assoc (loopsIn (take n allFacts)) (fact ∷ []) (withinCeiling (drop (suc n) allFacts)))
 
         module _ {number choice : ℕ} (numberIs : number ≡ loopAt rows n) (choiceIs : choice ≡ choiceDepth os) {words2 facts2 : List ℕ}
-            (wordsPut : words2 ≡ cond over words (paste words (differenceFrom number) (loopWords (wideForm (forms .difference)) (forms .stride) (here .depth) (a .starts) pushes) differenceWidth))
-            (factsPut : facts2 ≡ cond over facts (paste facts (factFrom number) (factNumbers (factWithin (wideForm (forms .difference)) (forms .stride) (forms .asked) choice a)) factWidth))
+            (wordsPut : words2 ≡ cond over words (paste words (differenceFrom number) (loopWords (wideForm (forms .difference)) (forms .size) (here .depth) (a .starts) pushes) differenceWidth))
+            (factsPut : facts2 ≡ cond over facts (paste facts (factFrom number) (factNumbers (factWithin (wideForm (forms .difference)) (forms .size) (forms .asked) choice a)) factWidth))
           where
             pub surveying-over : over ≡ true → Answer rows words2 facts2 n
             unfolding orElse
@@ -328,9 +327,9 @@ module _ {sheet : List ℕ} {count : ℕ} {ps : List ℤ} {words₀ facts₀ wor
             words-now : over ≡ false → words2 ≡ storedIn words₀ (wordsStored (loopsIn (take (n + 1) allFacts)))
             unfolding wordsStored
             words-now under =
-                let values : List ℕ = loopWords (wideForm (forms .difference)) (forms .stride) (here .depth) (a .starts) pushes in
+                let values : List ℕ = loopWords (wideForm (forms .difference)) (forms .size) (here .depth) (a .starts) pushes in
                 let are : values ≡ wordsOf fact =
-                (λ t. loopWords (forms-of .differenceIs t) (forms-of .strideIs t) (depth-is t) (a .starts) pushes)
+                (λ t. loopWords (forms-of .differenceIs t) (forms-of .sizeIs t) (depth-is t) (a .starts) pushes)
                 ∙ words-of-loop ps os es a pushes (g .holding) small (open-loops-at sheet ps n there) l (in-range .0) (in-range .1) in
                 wordsPut ∙ ap (λ (t : Bool). cond t words (paste words (differenceFrom number) values differenceWidth)) under
                 ∙ ap (λ (w : List ℕ). paste w (differenceFrom number) values differenceWidth) (g .wordsSoFar)
@@ -340,9 +339,9 @@ module _ {sheet : List ℕ} {count : ℕ} {ps : List ℤ} {words₀ facts₀ wor
             facts-now : over ≡ false → facts2 ≡ storedIn facts₀ (factsStored (loopsIn (take (n + 1) allFacts)))
             unfolding factsStored
             facts-now under =
-                let known : Fact = factWithin (wideForm (forms .difference)) (forms .stride) (forms .asked) choice a in
+                let known : Fact = factWithin (wideForm (forms .difference)) (forms .size) (forms .asked) choice a in
                 let is : known ≡ factOf fact =
-                (λ t. factWithin (forms-of .differenceIs t) (forms-of .strideIs t) (forms-of .askedIs t) choice a)
+                (λ t. factWithin (forms-of .differenceIs t) (forms-of .sizeIs t) (forms-of .askedIs t) choice a)
                 ∙ fact-of-loop ps os es a pushes (g .holding) small (open-loops-at sheet ps n there) l (in-range .0) (in-range .1) choice choiceIs in
                 factsPut ∙ ap (λ (t : Bool). cond t facts (paste facts (factFrom number) (factNumbers known) factWidth)) under
                 ∙ ap (λ (w : List ℕ). paste w (factFrom number) (factNumbers known) factWidth) (g .factsSoFar)
@@ -351,21 +350,21 @@ module _ {sheet : List ℕ} {count : ℕ} {ps : List ℤ} {words₀ facts₀ wor
 
             pub surveying-next : over ≡ false → {byte : ℕ} → byte ≡ getD sheet at 0 → {here2 : Nesting} →
                 ((os us : List Open) → here ≡ nestingOf os → openAfterKind os byte ≡ some us → here2 ≡ nestingOf us) →
-                {a2 : Around} → a2 ≡ aroundWith (wideForm (forms .lower)) (wideForm (forms .upper)) (here .depth) a →
-                {pushes2 : List (List ℤ)} → pushes2 ≡ pushesWith (wideForm (forms .lower)) (forms .signed) (here .depth) pushes →
+                {a2 : Around} → a2 ≡ aroundWith (forms .down) (wideForm (forms .lower)) (wideForm (forms .upper)) (here .depth) a →
+                {pushes2 : List (List ℤ)} → pushes2 ≡ pushesWith (wideForm (forms .lower)) (forms .stride) (here .depth) pushes →
                 Surveying sheet count ps words₀ facts₀ words2 facts2 a2 pushes2 here2 (n + 1)
             unfolding orElse opensAfter enclosingAfter
             surveying-next under {byte} byteIs {here2} after {a2} q {pushes2} p =
                 let entered = holding-entered ps os es a pushes (g .holding) small (open-loops-at sheet ps n there) l (in-range .0) (in-range .1) in
-                let inside : a2 ≡ aroundWith (folded ps (l .lower)) (folded ps (l .upper)) (loopDepth os) a =
-                q ∙ (λ t. aroundWith (forms-of .lowerIs t) (forms-of .upperIs t) (depth-is t) a) in
-                let pushed : pushes2 ≡ pushesWith (folded ps (l .lower)) (signedStride l) (loopDepth os) pushes =
-                p ∙ (λ t. pushesWith (forms-of .lowerIs t) (forms-of .signedIs t) (depth-is t) pushes) in
+                let inside : a2 ≡ aroundWith (countsDown l) (folded ps (l .lower)) (folded ps (l .upper)) (loopDepth os) a =
+                q ∙ (λ t. aroundWith (forms-of .downIs t) (forms-of .lowerIs t) (forms-of .upperIs t) (depth-is t) a) in
+                let pushed : pushes2 ≡ pushesWith (folded ps (l .lower)) (l .stride) (loopDepth os) pushes =
+                p ∙ (λ t. pushesWith (forms-of .lowerIs t) (forms-of .strideIs t) (depth-is t) pushes) in
                 let us : openLoop ∷ os ≡ opensThrough [] (take (n + 1) rs) = ap (opensAfter os) (sym (found .1)) ∙ opens-step sheet ps n there in
                 let xs : enter ps l es ≡ loopsAround ps (take (n + 1) rs) = ap (enclosingAfter ps os es) (sym (found .1)) ∙ loops-step sheet ps n there in
                 let held-on : Holding (openLoop ∷ os) (enter ps l es) a2 pushes2 =
                 subst (λ (x : Around). Holding (openLoop ∷ os) (enter ps l es) x pushes2) (sym inside)
-                (subst (Holding (openLoop ∷ os) (enter ps l es) (aroundWith (folded ps (l .lower)) (folded ps (l .upper)) (loopDepth os) a)) (sym pushed) entered) in
+                (subst (Holding (openLoop ∷ os) (enter ps l es) (aroundWith (countsDown l) (folded ps (l .lower)) (folded ps (l .upper)) (loopDepth os) a)) (sym pushed) entered) in
                 record {
                   all = g .all;
                   so-far = omega arith;

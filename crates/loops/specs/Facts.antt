@@ -7,8 +7,8 @@ use lib.IntN.{ℤ}
 use lib.Signed.{leZ}
 use lib.Dec.{ltb}
 use Rattle.meaning.specs.Form.{value}
-use Rattle.meaning.specs.Record.{Loop, Record, workRecord, loopRecord, Open, loopDepth, endRecord, choiceRecord, nextArmRecord}
-use Rattle.meaning.specs.Time.{difference, strideSize}
+use Rattle.meaning.specs.Record.{Loop, strideSize, Record, workRecord, loopRecord, Open, loopDepth, endRecord, choiceRecord, nextArmRecord}
+use Rattle.meaning.specs.Time.{difference}
 use Rattle.meaning.specs.Range.{differenceRange, ceiling}
 use Rattle.meaning.specs.Closed.{push, askedDifference}
 use Rattle.meaning.specs.Limits.{ceilingLimit}

@@ -7,10 +7,10 @@ use lib.IntN.{ℤ, pos, natAbs}
 use lib.Signed.{leZ}
 use lib.Dec.{ltb}
 use lib.ListN.{length, getD, set, replicate}
-use Rattle.whole.specs.Integer.{larger}
 use Rattle.meaning.specs.Limits.{depthLimit, constantHalf, parameterFactors}
 use Rattle.meaning.specs.Form.{Form}
 use Rattle.meaning.specs.Time.{tripCount}
+use Rattle.meaning.specs.Range.{Range, rangeUp, rangeDown}
 use Rattle.form.specs.Forms.{rangeWithin, valueAt, pushOf}
 use Rattle.layout.specs.declared.facts.Fact.{Fact}
 use Rattle.layout.specs.Loops.{wordOf}
@@ -49,13 +49,11 @@ unfoldable pub pushesWith : Form → ℤ → ℕ → List (List ℤ) → List (L
 pushesWith lower stride depth pushes =
     set (set (set (set pushes 0 (rowWith lower pushes depth 0)) 1 (rowWith lower pushes depth 1)) 2 (rowWith lower pushes depth 2)) depth (ownRow stride depth)
 
--- the indexes with that of a loop at this depth
-unfoldable pub aroundWith : Form → Form → ℕ → Around → Around
-aroundWith lower upper depth a = record {
-  lo = set (a .lo) depth (rangeWithin lower (a .lo) (a .hi) .lo);
-  hi = set (a .hi) depth (larger (rangeWithin lower (a .lo) (a .hi) .lo) (rangeWithin upper (a .lo) (a .hi) .hi));
-  starts = set (a .starts) depth (valueAt lower (a .starts));
-}
+-- the indexes with that of a loop at this depth, by whether it counts down
+unfoldable pub aroundWith : Bool → Form → Form → ℕ → Around → Around
+aroundWith down lower upper depth a =
+    let index : Range = cond down rangeDown rangeUp (rangeWithin lower (a .lo) (a .hi)) (rangeWithin upper (a .lo) (a .hi)) in
+    record { lo = set (a .lo) depth (index .lo); hi = set (a .hi) depth (index .hi); starts = set (a .starts) depth (valueAt lower (a .starts)) }
 
 -- four numbers of 16 bits
 pub record FourSmall (parameters : List ℤ) : Type 0 where

@@ -1,7 +1,7 @@
 // What the parameters make of one loop: its words, its ceiling, and the ranges, starts and pushes inside it.
 ghost use mathlib.Core.Path.{_≡_};
 ghost use mathlib.Core.List.{List};
-ghost use mathlib.Core.Bool.{not};
+ghost use mathlib.Core.Bool.{not, cond};
 ghost use Prim.Native.Nat.{_<_};
 ghost use lib.Dec.{eqb};
 ghost use lib.ListN.{getD};
@@ -10,9 +10,11 @@ ghost use Rattle.meaning.specs.Limits.{depthLimit};
 ghost use Rattle.meaning.specs.Record as M;
 ghost use Rattle.meaning.specs.Record.{Open, decodeRecord, loopKind, skipCycles};
 ghost use Rattle.meaning.specs.Reader.{bodyAt};
-ghost use Rattle.meaning.specs.Time.{tripCount};
+ghost use Rattle.meaning.specs.Range.{rangeUp, rangeDown};
+ghost use Rattle.meaning.specs.Time.{differenceUp, differenceDown, tripCount};
 ghost use Rattle.meaning.specs.Closed.{askedDifference};
-ghost use Rattle.form.specs.Forms.{wideForm};
+ghost use Rattle.form.specs.Forms.{wideForm, rangeOf};
+ghost use Rattle.form.specs.Packed.{formOf};
 ghost use Rattle.sheet.specs.Nestings.{nestingOf};
 ghost use Rattle.layout.specs.Loops.{wordOf};
 ghost use Rattle.loops.specs.Enclosing as S;
@@ -24,6 +26,8 @@ use form::Form;
 use form::MAX_DEPTH;
 use form::Parameters;
 use form::PerLoop;
+use form::Range;
+use form::packed::PackedForm;
 use layout::differences::DIFFERENCE_WIDTH;
 use records::SKIP_LOOP;
 use records::loops::Loop;
@@ -37,15 +41,16 @@ pub struct Around {
     pub starts: PerLoop,
 }
 
-// A loop's stride by its size and with its sign, the smallest D that closing asks of it, and its forms with the parameters' shares in their
-// constants.
+// The size of a loop's stride, the stride, the smallest D that closing asks of it, its forms with the parameters' shares in their
+// constants, and whether it counts down.
 pub struct Forms {
-    pub stride: u64,
-    pub signed: i64,
+    pub size: u64,
+    pub stride: i64,
     pub asked: i64,
     pub lower: Form,
     pub upper: Form,
     pub difference: Form,
+    pub down: bool,
 }
 
 // A loop's ceiling, and whether its smallest D is as large as closing asks.
@@ -81,6 +86,12 @@ fn larger(a: i64, b: i64) -> i64
     if a <= b { b } else { a }
 }
 
+fn smaller(a: i64, b: i64) -> i64
+    ensures { λ r. ⌜ r ≡ Z.smaller a b ⌝ }
+{
+    if a <= b { a } else { b }
+}
+
 // How many loops stand around the innermost open choice; 0 where none is open.
 pub(crate) fn choice_depth(here: Nesting) -> usize
     ensures { λ r. ⌜ ((os : List Open) → here ≡ nestingOf os → r ≡ S.choiceDepth os) ⌝ }
@@ -111,28 +122,42 @@ fn asked_difference(source: Loop, skips: bool) -> i64
     if skip_differs(source, skips) {
         return 0;
     }
-    -(source.stride as i64)
+    -(Loop::stride_size(source.stride) as i64)
+}
+
+// D: upper minus lower form, or lower minus upper form where the loop counts down.
+fn difference_of(lower: PackedForm, upper: PackedForm, down: bool) -> Form
+    ensures { λ r. ⌜ wideForm r ≡ cond down (differenceDown (formOf lower) (formOf upper)) (differenceUp (formOf lower) (formOf upper)) ⌝ }
+{
+    if down {
+        return Form::subtract(lower, upper);
+    }
+    Form::subtract(upper, lower)
 }
 
 fn forms_of(source: Loop, skips: bool, parameters: Parameters) -> Forms
     ensures { λ r. ⌜ FormsOf (loopOf skips source) parameters r ⌝ }
 {
+    let stride = source.stride;
+    let size = Loop::stride_size(stride);
+    let down = Loop::counts_down(stride);
     let packed_lower = source.lower;
     let packed_upper = source.upper;
     let low = Form::of(packed_lower);
     let up = Form::of(packed_upper);
-    let apart = Form::subtract(packed_upper, packed_lower);
+    let apart = difference_of(packed_lower, packed_upper, down);
     let lower = low.fold(parameters);
     let upper = up.fold(parameters);
     let difference = apart.fold(parameters);
     let asked = asked_difference(source, skips);
     Forms {
-        stride: source.stride as u64,
-        signed: source.stride as i64,
+        size: size as u64,
+        stride: stride as i64,
         asked: asked,
         lower: lower,
         upper: upper,
         difference: difference,
+        down: down,
     }
 }
 
@@ -208,10 +233,10 @@ pub(crate) fn pushes_with(
     pushes: [PerLoop; MAX_DEPTH],
 ) -> [PerLoop; MAX_DEPTH]
     requires { ⌜ depth < depthLimit ⌝ }
-    ensures { λ r. ⌜ r ≡ pushesWith (wideForm (forms .lower)) (forms .signed) depth pushes ⌝ }
+    ensures { λ r. ⌜ r ≡ pushesWith (wideForm (forms .lower)) (forms .stride) depth pushes ⌝ }
 {
     let lower = forms.lower;
-    let stride = forms.signed;
+    let stride = forms.stride;
     let mut own: PerLoop = [0; MAX_DEPTH];
     own[depth] = stride;
     let mut next = pushes;
@@ -222,10 +247,28 @@ pub(crate) fn pushes_with(
     next
 }
 
+// Where a loop's index lies, by the ranges of its forms and whether it counts down.
+fn index_range(lower: Range, upper: Range, down: bool) -> Range
+    ensures { λ r. ⌜ rangeOf r ≡ cond down rangeDown rangeUp (rangeOf lower) (rangeOf upper) ⌝ }
+{
+    if down {
+        let lo = smaller(upper.lo, lower.hi);
+        return Range {
+            lo: lo,
+            hi: lower.hi,
+        };
+    }
+    let hi = larger(lower.lo, upper.hi);
+    Range {
+        lo: lower.lo,
+        hi: hi,
+    }
+}
+
 // The indexes inside a loop at this depth.
 pub(crate) fn around_with(forms: Forms, depth: usize, around: Around) -> Around
     requires { ⌜ depth < depthLimit ⌝ }
-    ensures { λ r. ⌜ r ≡ aroundWith (wideForm (forms .lower)) (wideForm (forms .upper)) depth around ⌝ }
+    ensures { λ r. ⌜ r ≡ aroundWith (forms .down) (wideForm (forms .lower)) (wideForm (forms .upper)) depth around ⌝ }
 {
     let lower = forms.lower;
     let upper = forms.upper;
@@ -234,8 +277,9 @@ pub(crate) fn around_with(forms: Forms, depth: usize, around: Around) -> Around
     let mut starts = around.starts;
     let low = lower.range(lo, hi);
     let up = upper.range(lo, hi);
-    let least = low.lo;
-    let most = larger(least, up.hi);
+    let index = index_range(low, up, forms.down);
+    let least = index.lo;
+    let most = index.hi;
     let start = lower.at(starts);
     lo[depth] = least;
     hi[depth] = most;

@@ -4,7 +4,7 @@ mod forms;
 ghost use mathlib.Core.Path.{_≡_};
 ghost use mathlib.Core.Bool.{cond};
 ghost use mathlib.Core.Option.{none, some};
-ghost use Prim.Native.Nat.{_<_, _≤_, _^_};
+ghost use Prim.Native.Nat.{_<_, _^_};
 ghost use lib.Dec.{ltb};
 ghost use lib.ListN.{length};
 ghost use lib.Seq.{paste};
@@ -54,20 +54,20 @@ fn note_loop(
     differences: &mut Differences,
     facts: &mut Facts,
 ) -> bool
-    requires { ⌜ (0 < forms .stride) × (choice < 2 ^ 16) ⌝ }
-    ensures over { λ r. ⌜ r ≡ ltb ceilingLimit (ceilingWithin (wideForm (forms .difference)) (forms .stride) around) ⌝ }
+    requires { ⌜ (0 < forms .size) × (choice < 2 ^ 16) ⌝ }
+    ensures over { λ r. ⌜ r ≡ ltb ceilingLimit (ceilingWithin (wideForm (forms .difference)) (forms .size) around) ⌝ }
     ensures differences { λ r. ⌜ now (differences .exit) ≡ cond r (now (differences .entry)) (paste (now (differences .entry)) (differenceFrom number)
-        (loopWords (wideForm (forms .difference)) (forms .stride) depth (around .starts) pushes) differenceWidth) ⌝ }
+        (loopWords (wideForm (forms .difference)) (forms .size) depth (around .starts) pushes) differenceWidth) ⌝ }
     ensures facts { λ r. ⌜ now (facts .exit) ≡ cond r (now (facts .entry)) (paste (now (facts .entry)) (factFrom number)
-        (factNumbers (factWithin (wideForm (forms .difference)) (forms .stride) (forms .asked) choice around)) factWidth) ⌝ }
+        (factNumbers (factWithin (wideForm (forms .difference)) (forms .size) (forms .asked) choice around)) factWidth) ⌝ }
 {
     let difference = forms.difference;
-    let found = reach(difference, forms.stride, forms.asked, around);
+    let found = reach(difference, forms.size, forms.asked, around);
     if Loop::MAX_CEILING < found.ceiling {
         return true;
     }
     let starts = around.starts;
-    let words = loop_words(difference, forms.stride, depth, starts, pushes);
+    let words = loop_words(difference, forms.size, depth, starts, pushes);
     put_difference(differences, number, words);
     let fact = Fact {
         ceiling: found.ceiling as u16,

@@ -11,12 +11,12 @@ use Rattle.meaning.specs.Limits.{recordLimit, depthLimit, openLimit, cos
 use Rattle.meaning.specs.Number.{hasPattern}
 use Rattle.meaning.specs.Form.{Form, allZero, factorsFit, formInRange}
 use Rattle.meaning.specs.Record.{Kind, workKind, loopKind, endKind, choiceKind, nextArmKind, kindOf, bodyLength}
-use Rattle.meaning.specs.Record.{Loop, isGiven, skipWhere, skipCycles, Record, workRecord, loopRecord, endRecord, choiceRecord, nextArmRecord, kind, recordLength, decodeRecord}
+use Rattle.meaning.specs.Record.{Loop, strideSize, isGiven, skipWhere, skipCycles, Record, workRecord, loopRecord, endRecord, choiceRecord, nextArmRecord, kind, recordLength, decodeRecord}
 use Rattle.meaning.specs.Record.{Open, openLoop, openChoice, loopDepth, fieldsInRange, openAfter}
 use Rattle.meaning.specs.Reader.{readFromOf, readRecordOf, Result, ok, orRefuse, Accepted, accept, readRecord, endOfSheet, readFrom, read}
 use Rattle.meaning.specs.Tree.{Block, Arms, work, loop, choice, lastArm, arm, Segments, final, beforeEnd, beforeNextArm, onFirst}
 use Rattle.meaning.specs.Tree.{takeBody, takeArms, segments, firstSegment, tree, records, armsRecords, height, armsHeight}
-use Rattle.meaning.specs.Time.{strideSize, entryCost}
+use Rattle.meaning.specs.Time.{entryCost}
 use Rattle.meaning.proofs.Logic.{T-and, refused-is-not-ok, andThen-ok, require-ok, orRefuse-ok, andThen-yes, require-yes, orRefuse-yes, test-passed, nil-is-not-cons}
 use Rattle.meaning.proofs.Sound.{WorkSound, LoopSound, Sound, ArmsSound}
 
@@ -176,8 +176,8 @@ pub record LoopInRange (depth : ℕ) (l : Loop) : Type 0 where
   pub startSmall : l .start ≤ costLimit
   pub skipSmall : skipCycles l ≤ costLimit
   pub stepSmall : l .step ≤ costLimit
-  pub moves : 1 ≤ l .stride
-  pub strideSmall : l .stride ≤ strideLimit
+  pub moves : 1 ≤ strideSize l
+  pub strideSmall : strideSize l ≤ strideLimit
   pub lowerInRange : FormInRange depth (l .lower)
   pub upperInRange : FormInRange depth (l .upper)
 
@@ -209,8 +209,8 @@ unfolding fieldsInRange
 loop-in-range os l t =
     let a = leb (l .start) costLimit in
     let b = leb (l .step) costLimit in
-    let m = leb 1 (l .stride) in
-    let s = leb (l .stride) strideLimit in
+    let m = leb 1 (strideSize l) in
+    let s = leb (strideSize l) strideLimit in
     let f = formInRange (loopDepth os) (l .lower) in
     let g = formInRange (loopDepth os) (l .upper) in
     let k = leb (skipCycles l) costLimit in
@@ -224,8 +224,8 @@ loop-in-range os l t =
       startSmall = leb→le (l .start) costLimit (t1 .0);
       skipSmall = leb→le (skipCycles l) costLimit (t6 .1);
       stepSmall = leb→le (l .step) costLimit (t1 .1);
-      moves = leb→le 1 (l .stride) (t2 .1);
-      strideSmall = leb→le (l .stride) strideLimit (t3 .1);
+      moves = leb→le 1 (strideSize l) (t2 .1);
+      strideSmall = leb→le (strideSize l) strideLimit (t3 .1);
       lowerInRange = form-in-range (loopDepth os) (l .lower) (t4 .1);
       upperInRange = form-in-range (loopDepth os) (l .upper) (t5 .1);
     }
@@ -237,7 +237,6 @@ work-in-range os least most t =
     record { ordered = leb→le least most (b .0); mostSmall = leb→le most costLimit (b .1) }
 
 loop-sound : (depth : ℕ) (l : Loop) → LoopInRange depth l → LoopSound l
-unfolding strideSize
 loop-sound depth l i = record { moves = i .moves; entrySmall = entry; stepSmall = i .stepSmall }
   where
     entry : (trips : ℕ) → entryCost l trips ≤ costLimit

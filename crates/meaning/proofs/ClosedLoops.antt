@@ -19,9 +19,9 @@ use Rattle.whole.proofs.Sum.{sumTo-total, total-extensional}
 use Rattle.whole.proofs.Degree.{degree-constant, degree-le, degree-add, degree-loop}
 use Rattle.whole.proofs.Newton.{values-append-one, newton-sum, degree-vanish}
 use Rattle.meaning.specs.Form.{value}
-use Rattle.meaning.specs.Record.{Loop}
+use Rattle.meaning.specs.Record.{Loop, strideSize}
 use Rattle.meaning.specs.Tree.{Block, Arms, empty, work, loop, choice, lastArm, arm, height, loops, armsLoops}
-use Rattle.meaning.specs.Time.{Bounds, bounds, exactly, _⊕_, hull, difference, strideSize, entryCost}
+use Rattle.meaning.specs.Time.{Bounds, bounds, exactly, _⊕_, hull, difference, entryCost}
 use Rattle.meaning.specs.Time.{sumOver, tripCount, trips, innerIndexes, time, armsTime}
 use Rattle.meaning.specs.Range.{Range, range, indexRange, innerRanges, differenceRange}
 use Rattle.meaning.specs.Closed.{pushOwn, pushInner, strideDivides, askedDifference, closable, closed}

@@ -8,9 +8,9 @@ use lib.Dec.{T, eqb, eqb-refl}
 use lib.ListN.{length}
 use Rattle.whole.specs.Integer.{divides}
 use Rattle.whole.proofs.Floor.{divides-quotient, quotient-divides}
-use Rattle.meaning.specs.Record.{Loop, skipCycles}
+use Rattle.meaning.specs.Record.{Loop, strideSize, skipCycles}
 use Rattle.meaning.specs.Tree.{Block, Arms, empty, work, loop, choice, armsLoops}
-use Rattle.meaning.specs.Time.{difference, strideSize}
+use Rattle.meaning.specs.Time.{difference}
 use Rattle.meaning.specs.Range.{Range, innerRanges, rangesInside, differenceRange}
 use Rattle.meaning.specs.Closed.{push, pushOwn, pushInner, nestPushes, strideDivides, askedDifference, closable, closed}
 use Rattle.meaning.proofs.Logic.{T-and, and-T}

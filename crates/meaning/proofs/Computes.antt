@@ -1,7 +1,7 @@
 -- Unfolding `computes` unfolds every definition, so that a statement about a given sheet is computed.
 use Rattle.meaning.specs.Number.{unsigned, littleEndian, decodeSigned, encodeSigned, hasPattern, unsigned16, signed16, signed8}
 use Rattle.meaning.specs.Form.{formAt, formBytes, isZero, allZero, factorsFit, formInRange, value, subtract}
-use Rattle.meaning.specs.Record.{kindNumber, kindOf, bodyLength, isGiven, skipWhere, skipOr, skipCycles, kind, recordLength, decodeRecord}
+use Rattle.meaning.specs.Record.{kindNumber, kindOf, bodyLength, strideSize, countsDown, isGiven, skipWhere, skipOr, skipCycles, kind, recordLength, decodeRecord}
 use Rattle.meaning.specs.Record.{skipBytes, bodyBytes, recordBytes, sheetBytes, sheetLength, loopDepth, fieldsInRange, openAfter}
 use Rattle.meaning.specs.Reader.{require, orRefuse, andThen, accept, endOfSheet, readRecordOf, readFromOf, read, headOf, headAt, bodyOf, bodyAt}
 use Rattle.meaning.specs.Writer.{workFieldsZero, formZero, skipZero, loopFieldsZero, foreignFieldsZero, loopIn, recordOf, checkRecord, checkFrom}
@@ -10,9 +10,9 @@ use Rattle.meaning.specs.Converter.{withSkip, withoutSkip, changeLoop, s
 use Rattle.meaning.specs.Converter.{convert, withSkips, withoutSkips}
 use Rattle.meaning.specs.ConverterCall.{convertCall, withSkipsCall, withoutSkipsCall}
 use Rattle.meaning.specs.Tree.{onFirst, takeBody, takeArms, segments, firstSegment, tree, records, armsRecords, loops, armsLoops, height, armsHeight}
-use Rattle.meaning.specs.Time.{difference, signedStride, strideSize, entryCost, tripCount, sumOver, trips, indexAt, innerIndexes, time, armsTime}
+use Rattle.meaning.specs.Time.{difference, entryCost, tripCount, sumOver, trips, indexAt, innerIndexes, time, armsTime}
 use Rattle.meaning.specs.Run.{TripsRun, Run, ArmRun}
-use Rattle.meaning.specs.Range.{scale, addRange, dotRange, range, indexRange, innerRanges, differenceRange, ceiling}
+use Rattle.meaning.specs.Range.{scale, addRange, dotRange, rangeUp, rangeDown, range, indexRange, innerRanges, differenceRange, ceiling}
 use Rattle.meaning.specs.Closed.{push, pushOwn, pushInner, strideDivides, askedDifference, isClosed, closable, closed, loopClass}
 use Rattle.meaning.specs.Visits.{countOver, visitedOf, visitedTrips, visits, armsVisits}
 use Rattle.meaning.specs.Reason.{firstFailing, choiceTests, armsChoiceTests, aroundWith, unevenTests, ownTests}
@@ -39,8 +39,8 @@ unfolding unsigned littleEndian decodeSigned encodeSigned hasPattern unsigned16 
     sheetLength loopDepth fieldsInRange openAfter require orRefuse andThen accept endOfSheet readRecordOf readFromOf read headOf headAt bodyOf bodyAt
     workFieldsZero formZero skipZero loopFieldsZero foreignFieldsZero loopIn recordOf checkRecord checkFrom check store fitSheet write withSkip withoutSkip
     changeLoop skipsStart addSkips dropSkips recordsWithSkips recordsWithoutSkips convert withSkips withoutSkips convertCall withSkipsCall withoutSkipsCall
-    onFirst takeBody takeArms segments firstSegment tree records armsRecords loops armsLoops height armsHeight difference signedStride strideSize entryCost
-    tripCount sumOver trips indexAt innerIndexes time armsTime TripsRun Run ArmRun scale addRange dotRange range indexRange innerRanges differenceRange
+    onFirst takeBody takeArms segments firstSegment tree records armsRecords loops armsLoops height armsHeight difference strideSize countsDown entryCost
+    tripCount sumOver trips indexAt innerIndexes time armsTime TripsRun Run ArmRun scale addRange dotRange rangeUp rangeDown range indexRange innerRanges differenceRange
     ceiling push pushOwn pushInner strideDivides askedDifference isClosed closable closed loopClass countOver visitedOf visitedTrips visits armsVisits
     firstFailing choiceTests armsChoiceTests aroundWith unevenTests ownTests loopTests armsLoopTests closingTests reasonOf orElse firstOverCeiling allClosed
     loopReports armsReports closedSum addAll loopSum addTrip firstState afterEnd addArm stateOf visitBegun andOn indexesOf rangesOf enterLoop endTrip

@@ -9,9 +9,9 @@ use lib.Signed.{leZ}
 use lib.Dec.{eqb}
 use lib.ListN.{length}
 use Rattle.whole.specs.Integer.{divides}
-use Rattle.meaning.specs.Record.{Loop, loopRecord, choiceRecord, nextArmRecord, recordLength, sheetLength}
+use Rattle.meaning.specs.Record.{Loop, strideSize, countsDown, loopRecord, choiceRecord, nextArmRecord, recordLength, sheetLength}
 use Rattle.meaning.specs.Tree.{Block, Arms, empty, work, loop, choice, lastArm, arm, records, armsRecords}
-use Rattle.meaning.specs.Time.{difference, signedStride, strideSize}
+use Rattle.meaning.specs.Time.{difference}
 use Rattle.meaning.specs.Range.{Range, innerRanges, differenceRange}
 use Rattle.meaning.specs.Closed.{push, pushOwn, pushInner}
 use Rattle.meaning.specs.Place.{afterLoop, afterChoice}
@@ -80,7 +80,7 @@ module _ (ps : List ℤ) {change : Loop → Loop} (same : (l : Loop) → SameLoo
 
     around-moved : (depth : ℕ) (around : List Around) →
         aroundWith (change k) depth to (map (movedAround place) around) ≡ map (movedAround place) (aroundWith k depth at around)
-    unfolding aroundWith movedAround pushOwn pushInner signedStride withSkip
+    unfolding aroundWith movedAround pushOwn pushInner withSkip
     around-moved depth around =
         map-join (movedAround place) (map (λ m. record { offset = m .offset; pushes = pushInner k (m .pushes) }) around) _
         (map-map _ (movedAround place) around
@@ -89,7 +89,7 @@ module _ (ps : List ℤ) {change : Loop → Loop} (same : (l : Loop) → SameLoo
         (λ t. record { offset = sym moved t; pushes = pushOwn (both t) depth } ∷ [])
 
     uneven-moved : (around : List Around) → unevenTests (change k) to (map (movedAround place) around) ≡ map (movedTest place) (unevenTests k at around)
-    unfolding unevenTests movedAround movedTest movedReason difference strideSize withSkip
+    unfolding unevenTests movedAround movedTest movedReason difference strideSize countsDown withSkip
     uneven-moved around =
         map-map _ (movedAround place) around
         ∙ (λ t. map (λ (m : Around). record {
@@ -100,7 +100,7 @@ module _ (ps : List ℤ) {change : Loop → Loop} (same : (l : Loop) → SameLoo
 
     own-moved : (ranges : List Range) (around : List Around) →
         ownTests ps (change k) ranges (map (movedAround place) around) to ≡ map (movedTest place) (ownTests ps k ranges around at)
-    unfolding ownTests movedTest movedReason differenceRange difference withSkip
+    unfolding ownTests movedTest movedReason differenceRange difference countsDown withSkip
     own-moved ranges around =
         λ t. record { reason = tooFewTrips (sym moved t); fails = not (leZ (same-asked (same k) t) (differenceRange ps (both t) ranges .lo)) }
         ∷ uneven-moved around t

@@ -6,7 +6,7 @@ use Prim.Native.Nat.{ℕ, _+_}
 use native.Mathlib.Omega.{arith}
 use lib.ListN.{length, length-map}
 use lib.Dec.{T, eqb}
-use Rattle.meaning.specs.Record.{Loop, skipOr, skipCycles, Record, workRecord, loopRecord, endRecord, choiceRecord, nextArmRecord, recordLength}
+use Rattle.meaning.specs.Record.{Loop, strideSize, skipOr, skipCycles, Record, workRecord, loopRecord, endRecord, choiceRecord, nextArmRecord, recordLength}
 use Rattle.meaning.specs.Record.{Open, fieldsInRange, openAfter}
 use Rattle.meaning.specs.Reader.{ok, andThen, read}
 use Rattle.meaning.specs.Writer.{store, fitSheet, check, write}
@@ -40,7 +40,7 @@ module _ {change : Loop → Loop} (same : (l : Loop) → SameLoop l (change l)) 
   changed-open os (noLoop unchanged start) = ap (openAfter os) (unchanged change)
 
   changed-in-range : (os : List Open) {r : Record} → LoopOrNot r → fieldsInRange os (changeLoop change r) ≡ fieldsInRange os r
-  unfolding fieldsInRange changeLoop withSkip skipCycles skipOr
+  unfolding fieldsInRange strideSize changeLoop withSkip skipCycles skipOr
   changed-in-range os (isLoop l) = ap (λ (m : Loop). fieldsInRange os (loopRecord m)) (same-with-skip (same l))
   changed-in-range os (noLoop unchanged start) = ap (fieldsInRange os) (unchanged change)
 

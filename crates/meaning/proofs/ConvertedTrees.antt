@@ -7,9 +7,9 @@ use lib.IntN.{ℤ}
 use lib.Signed.{leZ}
 use lib.Dec.{eqb}
 use lib.ListN.{length}
-use Rattle.meaning.specs.Record.{Loop, Record, workRecord, loopRecord, endRecord, choiceRecord, nextArmRecord}
+use Rattle.meaning.specs.Record.{Loop, strideSize, countsDown, Record, workRecord, loopRecord, endRecord, choiceRecord, nextArmRecord}
 use Rattle.meaning.specs.Tree.{Block, Arms, empty, work, loop, choice, lastArm, arm, tree, records, armsRecords, loops, armsLoops, height, armsHeight}
-use Rattle.meaning.specs.Time.{difference, signedStride, strideSize, entryCost, bounds, exactly, _⊕_, hull, sumOver}
+use Rattle.meaning.specs.Time.{difference, entryCost, bounds, exactly, _⊕_, hull, sumOver}
 use Rattle.meaning.specs.Time.{trips, indexAt, innerIndexes, time, armsTime}
 use Rattle.meaning.specs.Range.{Range, indexRange, innerRanges, differenceRange, ceiling}
 use Rattle.meaning.specs.Closed.{pushOwn, pushInner, closedClass, walkedClass, closable, closed, loopClass}
@@ -97,19 +97,19 @@ module _ (ps : List ℤ) {change : Loop → Loop} (same : (l : Loop) → SameLoo
   both l = same-with-skip (same l)
 
   pub trips-changed : (l : Loop) (indexes : List ℤ) → trips ps (change l) indexes ≡ trips ps l indexes
-  unfolding trips difference strideSize withSkip
+  unfolding trips difference strideSize countsDown withSkip
   trips-changed l indexes = ap (λ (m : Loop). trips ps m indexes) (both l)
 
   pub ranges-changed : (l : Loop) (ranges : List Range) → innerRanges ps (change l) ranges ≡ innerRanges ps l ranges
-  unfolding innerRanges indexRange withSkip
+  unfolding innerRanges indexRange countsDown withSkip
   ranges-changed l ranges = ap (λ (m : Loop). innerRanges ps m ranges) (both l)
 
   pub ceiling-changed : (l : Loop) (ranges : List Range) → ceiling ps (change l) ranges ≡ ceiling ps l ranges
-  unfolding ceiling differenceRange difference strideSize withSkip
+  unfolding ceiling differenceRange difference strideSize countsDown withSkip
   ceiling-changed l ranges = ap (λ (m : Loop). ceiling ps m ranges) (both l)
 
   mutual
-    unfolding time changeBlock innerIndexes indexAt signedStride withSkip
+    unfolding time changeBlock innerIndexes indexAt withSkip
 
     pub time-changed : (b : Block) (indexes : List ℤ) → time ps (changeBlock change b) indexes ≡ time ps b indexes
     time-changed empty indexes = refl
@@ -128,7 +128,7 @@ module _ (ps : List ℤ) {change : Loop → Loop} (same : (l : Loop) → SameLoo
 
   closable-changed : (b : Block) (ranges : List Range) (pushes : List (List ℤ)) →
       closable ps (changeBlock change b) ranges pushes ≡ closable ps b ranges pushes
-  unfolding closable changeBlock differenceRange difference pushOwn pushInner signedStride withSkip
+  unfolding closable changeBlock differenceRange difference countsDown pushOwn pushInner withSkip
   closable-changed empty ranges pushes = refl
   closable-changed (work least most rest) ranges pushes = closable-changed rest ranges pushes
   closable-changed (loop l body rest) ranges pushes =
@@ -138,12 +138,12 @@ module _ (ps : List ℤ) {change : Loop → Loop} (same : (l : Loop) → SameLoo
   closable-changed (choice arms rest) ranges pushes = λ t. eqb (arms-loops-changed change arms t) zero && closable-changed rest ranges pushes t
 
   pub class-changed : (l : Loop) (body : Block) (ranges : List Range) → loopClass ps (change l) (changeBlock change body) ranges ≡ loopClass ps l body ranges
-  unfolding loopClass closed pushOwn signedStride withSkip
+  unfolding loopClass closed pushOwn withSkip
   class-changed l body ranges =
       λ t. cond (closable-changed body (ranges-changed l ranges t) (pushOwn (both l t) (length ranges) ∷ []) t) closedClass walkedClass
 
   mutual
-    unfolding visits changeBlock visitedTrips innerIndexes indexAt signedStride withSkip
+    unfolding visits changeBlock visitedTrips innerIndexes indexAt withSkip
 
     pub visits-changed : (b : Block) (ranges : List Range) (indexes : List ℤ) → visits ps (changeBlock change b) ranges indexes ≡ visits ps b ranges indexes
     visits-changed empty ranges indexes = refl

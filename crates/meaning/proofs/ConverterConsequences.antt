@@ -1,27 +1,24 @@
 -- What C-12's promises come to, drawn from them alone, so that a weaker part breaks a theorem: a converted sheet is answered as the old one, loop for loop,
--- nothing is lost on the way, and the sheets of document 01 are read as they were.
+-- and nothing is lost on the way.
 use mathlib.Core.Path.{_≡_, refl, sym, ap, _∙_}
 use mathlib.Core.List.{List, [], _∷_, _++_, map, map-append}
 use mathlib.Core.Bool.{Bool, not, cond, _&&_}
-use mathlib.Core.Option.{none, Option·map}
-use mathlib.Core.Logic.{_⊎_, inl, inr}
+use mathlib.Core.Option.{Option·map}
 use Prim.Native.Nat.{ℕ, _≤_}
 use native.Mathlib.Omega.{arith}
-use lib.IntN.{ℤ, pos, negℤ}
-use lib.ListN.{length, getD, take, drop, length-append, length-map}
+use lib.IntN.{ℤ}
+use lib.ListN.{length, take, drop, length-append, length-map}
 use lib.Seq.{take-append-seam, drop-append-seam}
 use borrow.Author.Tests.{ne-eqb}
 use Rattle.meaning.specs.Record.{loopKind, Loop, Record, loopRecord, kind}
-use Rattle.meaning.specs.Time.{strideSize, entryCost}
 use Rattle.meaning.specs.Reader.{Result, ok, refused, read}
 use Rattle.meaning.specs.Writer.{Written, store}
-use Rattle.meaning.specs.Closed.{askedDifference, isClosed}
+use Rattle.meaning.specs.Closed.{isClosed}
 use Rattle.meaning.specs.Report.{LoopReport, allClosed}
 use Rattle.meaning.specs.Answer.{Figures, sheetReports, answer}
 use Rattle.meaning.specs.Moved.{newOffset, movedAnswer, movedReason, movedReport, SameSheet, Without, Turned}
-use Rattle.meaning.specs.FirstReader.{firstRead, ReadAsBefore}
-use Rattle.meaning.proofs.FirstReaders.{without-at}
-use Rattle.meaning.proofs.Logic.{refused-is-not-ok, refused-number, ok-injective}
+use Rattle.meaning.proofs.AlikeReaders.{each-at}
+use Rattle.meaning.proofs.Logic.{refused-is-not-ok, ok-injective}
 
 -- ---- the same sheet
 
@@ -139,7 +136,7 @@ module _ (hasSkip : Bool) (back : List ℕ → List ℕ → Written) where
   -- no loop of the new sheet is of the other kind
   pub none-left : {new old : List ℕ} → Turned hasSkip back old new → (before after : List Record) (l : Loop) → read new ≡ ok (before ++ (loopRecord l ∷ after)) →
       ¬ (kind (loopRecord l) ≡ loopKind (not hasSkip))
-  none-left t before after l e = without-at (loopKind (not hasSkip)) before after (loopRecord l) (t .everyLoop (before ++ (loopRecord l ∷ after)) e)
+  none-left t before after l e = each-at (λ r. ¬ (kind r ≡ loopKind (not hasSkip))) before after (loopRecord l) (t .everyLoop (before ++ (loopRecord l ∷ after)) e)
 
   -- no two sheets are converted to one
   pub nothing-lost : {new one other : List ℕ} → Returns new one → Returns new other → one ≡ other
@@ -148,26 +145,3 @@ module _ (hasSkip : Bool) (back : List ℕ → List ℕ → Written) where
       let long = length-append one other in
       let same-length : length one ≡ length other = ok-injective (sym (length-returned r room (omega arith)) ∙ length-returned s room (omega arith)) in
       sym (bytes-returned r room (omega arith)) ∙ ap (λ (n : ℕ). take n (back new room .buffer)) same-length ∙ bytes-returned s room (omega arith)
-
--- ---- the sheets of document 01
-
-module _ {sheet : List ℕ} (before : ReadAsBefore sheet) where
-  pub still-read : (rs : List Record) → firstRead sheet ≡ ok rs → read sheet ≡ ok rs
-  still-read rs e = go (before .alike)
-    where
-      go : (firstRead sheet ≡ read sheet) ⊎ ((at : ℕ) × (firstRead sheet ≡ refused 2 at) × (getD sheet at 0 ≡ 6)) → read sheet ≡ ok rs
-      go (inl same) = sym same ∙ e
-      go (inr (at, refusal, six)) = refused-is-not-ok (sym refusal ∙ e)
-
-  -- and each of its loops has no skip, costs its start, whatever its trips, and is asked for minus its stride
-  pub still-so : (rs after : List Record) (l : Loop) → firstRead sheet ≡ ok (rs ++ (loopRecord l ∷ after)) →
-      (l .skip ≡ none) × ((trips : ℕ) → entryCost l trips ≡ l .start) × (askedDifference l ≡ negℤ (pos (strideSize l)))
-  still-so rs after l e = let as-before = before .loops rs after l e in (as-before .noSkip, as-before .entry, as-before .asked)
-
-  -- only a refusal 2 may change
-  pub still-refused : (number at : ℕ) → ¬ (number ≡ 2) → firstRead sheet ≡ refused number at → read sheet ≡ refused number at
-  still-refused number at other e = go (before .alike)
-    where
-      go : (firstRead sheet ≡ read sheet) ⊎ ((at : ℕ) × (firstRead sheet ≡ refused 2 at) × (getD sheet at 0 ≡ 6)) → read sheet ≡ refused number at
-      go (inl same) = sym same ∙ e
-      go (inr (six-at, refusal, six)) = absurd (other (refused-number (sym e ∙ refusal)))

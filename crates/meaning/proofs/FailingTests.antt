@@ -7,9 +7,9 @@ use lib.IntN.{ℤ}
 use lib.Dec.{T, eqb, eqb→eq, T-not, not-T}
 use lib.ListN.{length}
 use Rattle.whole.specs.Integer.{divides}
-use Rattle.meaning.specs.Record.{Loop, loopRecord, recordLength}
+use Rattle.meaning.specs.Record.{Loop, strideSize, loopRecord, recordLength}
 use Rattle.meaning.specs.Tree.{Block, Arms, empty, work, loop, choice, lastArm, arm, armsLoops}
-use Rattle.meaning.specs.Time.{difference, strideSize}
+use Rattle.meaning.specs.Time.{difference}
 use Rattle.meaning.specs.Range.{Range, innerRanges, rangesInside}
 use Rattle.meaning.specs.Closed.{push, pushOwn, nestPushes}
 use Rattle.meaning.specs.Place.{afterLoop}

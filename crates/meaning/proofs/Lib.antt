@@ -1,4 +1,5 @@
 pub mod Logic
+pub mod Strides
 pub mod Skips
 pub mod Sound
 pub mod Trips
@@ -32,6 +33,12 @@ pub mod Stages
 pub mod Reports
 pub mod TestLists
 pub mod PassingTests
+pub mod Upward
+pub mod UpwardForms
+pub mod UpwardLoops
+pub mod UpwardTrees
+pub mod UpwardReasons
+pub mod UpwardReports
 pub mod FailingTests
 pub mod TestOrder
 pub mod ReasonPlaces
@@ -47,7 +54,10 @@ pub mod Converters
 pub mod WaysBack
 pub mod ConverterRefusals
 pub mod ConverterCalls
-pub mod FirstReaders
+pub mod AlikeReaders
+pub mod EarlierReaders
+pub mod EarlierReaderConsequences
+pub mod StrideFields
 pub mod ConverterConsequences
 pub mod Demands
 pub mod Consequences

@@ -2,13 +2,14 @@
 use mathlib.Core.Path.{_≡_, refl, ap, _∙_}
 use mathlib.Core.List.{List, [], _∷_}
 use mathlib.Core.Bool.{Bool, true, false, cond}
-use Prim.Native.Nat.{ℕ, zero, suc, _+_, _*_, _-_, _/_, _%_, _^_, _<_}
+use Prim.Native.Nat.{ℕ, zero, suc, _+_, _*_, _-_, _/_, _%_, _^_, _≤_, _<_}
 use native.Mathlib.Nat.{pow-suc}
 use native.Mathlib.Omega.{arith}
-use lib.IntN.{ℤ, pos, negsuc}
+use lib.IntN.{ℤ, pos, negsuc, _+ℤ_}
 use lib.ListN.{length, getD, take, drop}
 use lib.Dec.{T, ltb, ltb→lt}
 use borrow.Author.Tests.{lt-ltb, le-ltb}
+use Rattle.whole.proofs.Order.{subℕ-pos}
 use Rattle.meaning.specs.Number.{unsigned, littleEndian, decodeSigned, encodeSigned, hasPattern}
 
 -- ---- bytes
@@ -64,14 +65,22 @@ unsigned-bound (b ∷ bs) (p, h) = let i = unsigned-bound bs h in omega (arith, 
 
 -- ---- signed numbers
 
+-- a pattern in the lower half is its own number, one in the upper half is a negative one
+pub decoded-low : (half n : ℕ) → n < half → decodeSigned half n ≡ pos n
+unfolding decodeSigned
+decoded-low half n h = ap (λ (c : Bool). cond c (pos n) (negsuc (half + half - suc n))) (lt-ltb n half h)
+
+pub decoded-high : (half n : ℕ) → half ≤ n → decodeSigned half n ≡ negsuc (half + half - suc n)
+unfolding decodeSigned
+decoded-high half n h = ap (λ (c : Bool). cond c (pos n) (negsuc (half + half - suc n))) (le-ltb n half h)
+
 pub decode-encode : (half : ℕ) (z : ℤ) → T (hasPattern half z) → decodeSigned half (encodeSigned half z) ≡ z
-unfolding decodeSigned encodeSigned hasPattern
-decode-encode half (pos n) t = ap (λ (c : Bool). cond c (pos n) (negsuc (half + half - suc n))) (lt-ltb n half (ltb→lt n half t))
+unfolding encodeSigned hasPattern
+decode-encode half (pos n) t = decoded-low half n (ltb→lt n half t)
 decode-encode half (negsuc n) t =
     let h = ltb→lt n half t in
     let e : half + half - suc (half + half - suc n) ≡ n = omega arith in
-    ap (λ (c : Bool). cond c (pos (half + half - suc n)) (negsuc (half + half - suc (half + half - suc n))))
-    (le-ltb (half + half - suc n) half (omega arith)) ∙ ap negsuc e
+    decoded-high half (half + half - suc n) (omega arith) ∙ ap negsuc e
 
 pub encode-decode : (half n : ℕ) → n < half + half → encodeSigned half (decodeSigned half n) ≡ n
 unfolding encodeSigned decodeSigned
@@ -80,6 +89,13 @@ encode-decode half n h = go (ltb n half)
     go : (c : Bool) → encodeSigned half (cond c (pos n) (negsuc (half + half - suc n))) ≡ n
     go true = refl
     go false = omega arith
+
+-- "in two's complement": a pattern in the upper half is half + half above its number
+pub complement : (half n : ℕ) → half ≤ n → n < half + half → decodeSigned half n +ℤ pos (half + half) ≡ pos n
+complement half n upper short =
+    let m : ℕ = half + half - suc n in
+    let same : half + half - suc m ≡ n = omega arith in
+    ap (λ (z : ℤ). z +ℤ pos (half + half)) (decoded-high half n upper) ∙ subℕ-pos (half + half) (suc m) (omega arith) ∙ ap pos same
 
 -- a number that has a pattern has one of the half + half
 pub encode-bound : (half : ℕ) (z : ℤ) → T (hasPattern half z) → encodeSigned half z < half + half

@@ -11,9 +11,9 @@ use lib.Signed.{leZ}
 use lib.Dec.{T, eqb, eqb→eq}
 use lib.ListN.{length}
 use Rattle.whole.specs.Integer.{divides}
-use Rattle.meaning.specs.Record.{Loop, workRecord, loopRecord, choiceRecord, nextArmRecord, recordLength, sheetLength}
+use Rattle.meaning.specs.Record.{Loop, strideSize, workRecord, loopRecord, choiceRecord, nextArmRecord, recordLength, sheetLength}
 use Rattle.meaning.specs.Tree.{Block, Arms, empty, work, loop, choice, lastArm, arm, records, loops, armsLoops}
-use Rattle.meaning.specs.Time.{difference, strideSize}
+use Rattle.meaning.specs.Time.{difference}
 use Rattle.meaning.specs.Range.{Range, innerRanges, differenceRange}
 use Rattle.meaning.specs.Closed.{push, pushOwn, pushInner, strideDivides, askedDifference, closable, closed}
 use Rattle.meaning.specs.Place.{afterLoop, afterChoice}

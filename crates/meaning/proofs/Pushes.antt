@@ -15,8 +15,8 @@ use Rattle.whole.proofs.Dot.{dot-⊞, dot-zeros}
 use Rattle.whole.proofs.Floor.{divides-quotient}
 use Rattle.whole.proofs.Degree.{firstOf-⊞, restOf-⊞}
 use Rattle.meaning.specs.Form.{Form, value}
-use Rattle.meaning.specs.Record.{Loop}
-use Rattle.meaning.specs.Time.{difference, signedStride, strideSize, indexAt, innerIndexes}
+use Rattle.meaning.specs.Record.{Loop, strideSize}
+use Rattle.meaning.specs.Time.{difference, indexAt, innerIndexes}
 use Rattle.meaning.specs.Closed.{push, pushOwn, pushInner, nestPushes, strideDivides}
 use Rattle.meaning.proofs.Logic.{T-and}
 
@@ -38,20 +38,20 @@ push-times f q moves = dot-times q (f .index) moves
 
 -- where the indexes around loop l move by `moves` and its counter by `steps`: its own index moves by its lower form and by its strides
 unfoldable pub moveInside : Loop → List ℤ → ℤ → List ℤ
-moveInside l moves steps = moves ++ ((push (l .lower) moves +ℤ steps *ℤ signedStride l) ∷ [])
+moveInside l moves steps = moves ++ ((push (l .lower) moves +ℤ steps *ℤ l .stride) ∷ [])
 
 -- the two definitions of pushes are such moves: one step of its own counter, or none
 pushOwn-move : (l : Loop) (depth : ℕ) → pushOwn l depth ≡ moveInside l (replicate depth (pos zero)) (pos 1)
 unfolding moveInside pushOwn
 pushOwn-move l depth =
-    ap (λ (z : ℤ). replicate depth (pos zero) ++ (z ∷ [])) (sym (ap (λ (z : ℤ). z +ℤ pos 1 *ℤ signedStride l) (push-zeros (l .lower) depth)
-    ∙ +ℤ-idl (pos 1 *ℤ signedStride l) ∙ *ℤ-comm (pos 1) (signedStride l) ∙ times-one (signedStride l)))
+    ap (λ (z : ℤ). replicate depth (pos zero) ++ (z ∷ [])) (sym (ap (λ (z : ℤ). z +ℤ pos 1 *ℤ l .stride) (push-zeros (l .lower) depth)
+    ∙ +ℤ-idl (pos 1 *ℤ l .stride) ∙ *ℤ-comm (pos 1) (l .stride) ∙ times-one (l .stride)))
 
 pushInner-move : (l : Loop) (moves : List ℤ) → pushInner l moves ≡ moveInside l moves (pos zero)
 unfolding moveInside pushInner
 pushInner-move l moves =
     ap (λ (z : ℤ). moves ++ (z ∷ []))
-    (sym (ap (λ (z : ℤ). push (l .lower) moves +ℤ z) (zero-*ℤ (signedStride l)) ∙ +ℤ-idr (push (l .lower) moves)))
+    (sym (ap (λ (z : ℤ). push (l .lower) moves +ℤ z) (zero-*ℤ (l .stride)) ∙ +ℤ-idr (push (l .lower) moves)))
 
 -- such moves add up and multiply
 moveInside-zeros : (l : Loop) (depth : ℕ) → moveInside l (replicate depth (pos zero)) (pos zero) ≡ replicate (suc depth) (pos zero)
@@ -72,7 +72,7 @@ length-append-one xs x n e = let k = length-append xs (x ∷ []) in omega arith
 
 length-pushOwn : (l : Loop) (depth : ℕ) → length (pushOwn l depth) ≡ suc depth
 unfolding pushOwn
-length-pushOwn l depth = length-append-one (replicate depth (pos zero)) (signedStride l) depth (length-replicate depth (pos zero))
+length-pushOwn l depth = length-append-one (replicate depth (pos zero)) (l .stride) depth (length-replicate depth (pos zero))
 
 length-pushInner : (l : Loop) (moves : List ℤ) (depth : ℕ) → length moves ≡ depth → length (pushInner l moves) ≡ suc depth
 unfolding pushInner
@@ -92,7 +92,7 @@ module _ (ps : List ℤ) where
 
   -- the indexes inside loop l, its counter any integer
   unfoldable pub indexesInside : Loop → List ℤ → ℤ → List ℤ
-  indexesInside l indexes counter = indexes ++ ((value ps (l .lower) indexes +ℤ counter *ℤ signedStride l) ∷ [])
+  indexesInside l indexes counter = indexes ++ ((value ps (l .lower) indexes +ℤ counter *ℤ l .stride) ∷ [])
 
   -- those of a trip
   pub indexesInside-trip : (l : Loop) (indexes : List ℤ) (trip : ℕ) → innerIndexes ps l indexes trip ≡ indexesInside l indexes (pos trip)
@@ -101,7 +101,7 @@ module _ (ps : List ℤ) where
 
   length-indexesInside : (l : Loop) (indexes : List ℤ) (counter : ℤ) (depth : ℕ) → length indexes ≡ depth → length (indexesInside l indexes counter) ≡ suc depth
   unfolding indexesInside
-  length-indexesInside l indexes counter depth e = length-append-one indexes (value ps (l .lower) indexes +ℤ counter *ℤ signedStride l) depth e
+  length-indexesInside l indexes counter depth e = length-append-one indexes (value ps (l .lower) indexes +ℤ counter *ℤ l .stride) depth e
 
   -- they follow the indexes around the loop and its counter
   pub indexesInside-moved : (l : Loop) (indexes moves : List ℤ) (counter steps : ℤ) → length indexes ≡ length moves →

@@ -1,22 +1,24 @@
 -- Values lie in their ranges: those of forms, which reach both ends, and the indexes of every trip; the trips are at most the ceiling.
-use mathlib.Core.Path.{_≡_, refl, sym, ap, ap₂, _∙_}
+use mathlib.Core.Path.{_≡_, refl, sym, ap, ap₂, _∙_, subst}
 use mathlib.Core.List.{List, [], _∷_, _++_}
-use mathlib.Core.Bool.{Bool, true, false}
+use mathlib.Core.Bool.{Bool, true, false, cond}
 use mathlib.Core.Logic.{_↔_}
 use Prim.Native.Nat.{ℕ, zero, suc, _*_, _≤_, _<_}
-use lib.IntN.{ℤ, pos, negsuc, _+ℤ_, _-ℤ_, _*ℤ_, negℤ-+ℤ}
-use lib.Signed.{_≤ℤ_, ≤ℤ-refl}
+use lib.IntN.{ℤ, pos, negsuc, negℤ, _+ℤ_, _-ℤ_, _*ℤ_, negℤ-+ℤ}
+use lib.Signed.{_≤ℤ_, leZ, ≤ℤ-refl}
+use lib.Dec.{T}
 use lib.ListN.{length}
-use Rattle.whole.specs.Integer.{dot, larger}
-use Rattle.whole.proofs.Ring.{sort-sums}
+use Rattle.whole.specs.Integer.{dot, larger, smaller}
+use Rattle.whole.proofs.Ring.{sort-sums, *ℤ-negℤ}
 use Rattle.whole.proofs.Order.{AtMost, AtMost-refl, AtMost-trans, AtMost-add, AtMost-scale-pos, AtMost-scale-negsuc}
-use Rattle.whole.proofs.Order.{larger-left, larger-right, ≤ℤ→AtMost, AtMost→≤ℤ, AtMost-subtract, AtMost-restore}
+use Rattle.whole.proofs.Order.{larger-left, larger-right, smaller-left, smaller-right, leZ→AtMost, AtMost→leZ, ≤ℤ→AtMost, AtMost→≤ℤ, AtMost-subtract, AtMost-restore, AtMost-exchange, AtMost-less}
 use Rattle.whole.proofs.Floor.{counted-at-most, at-most-counted, count-monotone}
 use Rattle.whole.proofs.Dot.{dot-subtract}
 use Rattle.meaning.specs.Form.{Form, value, subtract}
-use Rattle.meaning.specs.Record.{Loop}
-use Rattle.meaning.specs.Time.{difference, signedStride, strideSize, tripCount, trips, indexAt, innerIndexes}
-use Rattle.meaning.specs.Range.{Range, exactRange, scale, addRange, dotRange, range, indexRange, innerRanges, differenceRange, ceiling}
+use Rattle.meaning.specs.Record.{Loop, strideSize, countsDown}
+use Rattle.meaning.specs.Time.{difference, tripCount, trips, indexAt, innerIndexes}
+use Rattle.meaning.specs.Range.{Range, exactRange, scale, addRange, dotRange, rangeUp, rangeDown, range, indexRange, innerRanges, differenceRange, ceiling}
+use Rattle.meaning.proofs.Strides.{Direction, up, down, direction, difference-up, difference-down, indexRange-up, indexRange-down}
 use Rattle.meaning.proofs.Trips.{Inside}
 
 -- ---- sums of products lie in their ranges
@@ -132,11 +134,14 @@ module _ (ps : List ℤ) where
   unfolding value subtract
   value-subtract f g indexes = simp (dot-subtract, negℤ-+ℤ) (simp sort-sums)
 
-  -- D is by how much the upper form's value is above the lower form's
-  pub value-difference : (l : Loop) (indexes : List ℤ) →
+  -- D is by how much the upper form's value is above the lower form's, or below it where the loop counts down
+  pub value-difference-up : (l : Loop) (indexes : List ℤ) → countsDown l ≡ false →
       value ps (difference l) indexes ≡ value ps (l .upper) indexes -ℤ value ps (l .lower) indexes
-  unfolding difference
-  value-difference l indexes = value-subtract (l .upper) (l .lower) indexes
+  value-difference-up l indexes e = ap (λ (f : Form). value ps f indexes) (difference-up l e) ∙ value-subtract (l .upper) (l .lower) indexes
+
+  pub value-difference-down : (l : Loop) (indexes : List ℤ) → countsDown l ≡ true →
+      value ps (difference l) indexes ≡ value ps (l .lower) indexes -ℤ value ps (l .upper) indexes
+  value-difference-down l indexes e = ap (λ (f : Form). value ps f indexes) (difference-down l e) ∙ value-subtract (l .lower) (l .upper) indexes
 
   -- a form's value at indexes inside their ranges lies in its range
   pub value-inside : (f : Form) (ranges : List Range) (indexes : List ℤ) → Inside indexes ranges → Within (value ps f indexes) (range ps f ranges)
@@ -157,52 +162,128 @@ module _ (ps : List ℤ) where
 
   -- ---- indexes and trips
 
-  -- an index goes no further than the upper form's value
-  pub index-at-most-upper : (l : Loop) (indexes : List ℤ) (trip : ℕ) → trip < trips ps l indexes →
-      AtMost (indexAt ps l indexes trip) (value ps (l .upper) indexes)
-  unfolding indexAt trips tripCount signedStride strideSize
-  index-at-most-upper l indexes trip made =
-      let within = counted-at-most (value ps (difference l) indexes) (strideSize l) trip made in
-      AtMost-restore (value ps (l .lower) indexes) (pos (trip * strideSize l)) (value ps (l .upper) indexes) (rw (value-difference l indexes) at within)
+  -- a loop's values at the indexes around it, and how far its index has moved in a trip
+  module _ (l : Loop) (indexes : List ℤ) (trip : ℕ) where
+    abbrev lowValue : ℤ
+    lowValue = value ps (l .lower) indexes
 
-  -- the rule in the loop's own terms: a trip is made exactly where its index is at most the upper form's value
-  pub trip-made-exactly : (l : Loop) (indexes : List ℤ) (trip : ℕ) → 1 ≤ strideSize l →
-      (trip < trips ps l indexes) ↔ (indexAt ps l indexes trip ≤ℤ value ps (l .upper) indexes)
-  unfolding indexAt trips tripCount signedStride strideSize
-  trip-made-exactly l indexes trip moves = (λ made. AtMost→≤ℤ (index-at-most-upper l indexes trip made), λ h. made (≤ℤ→AtMost h))
-    where
-      made : AtMost (indexAt ps l indexes trip) (value ps (l .upper) indexes) → trip < trips ps l indexes
-      made below =
-          let within = AtMost-subtract (value ps (l .lower) indexes) (pos (trip * strideSize l)) (value ps (l .upper) indexes) below in
-          at-most-counted (value ps (difference l) indexes) (strideSize l) trip moves (rw (value-difference l indexes) within)
+    abbrev upValue : ℤ
+    upValue = value ps (l .upper) indexes
 
-  index-within : (l : Loop) (ranges : List Range) (indexes : List ℤ) (trip : ℕ) → Inside indexes ranges → trip < trips ps l indexes →
-      Within (indexAt ps l indexes trip) (indexRange ps l ranges)
-  unfolding indexAt indexRange signedStride strideSize
-  index-within l ranges indexes trip inside made =
-      let low : ℤ = value ps (l .lower) indexes in
-      let up : ℤ = value ps (l .upper) indexes in
-      let index : ℤ = low +ℤ pos (trip * strideSize l) in
-      let lo : ℤ = range ps (l .lower) ranges .lo in
-      let hi : ℤ = range ps (l .upper) ranges .hi in
-      let under = AtMost-trans up hi (larger lo hi) (value-inside (l .upper) ranges indexes inside .high) (larger-right lo hi) in
-      record {
-        low = AtMost-trans lo low index (value-inside (l .lower) ranges indexes inside .low) (record { gap = trip * strideSize l; equation = refl });
-        high = AtMost-trans index up (larger lo hi) (index-at-most-upper l indexes trip made) under;
-      }
+    abbrev moved : ℤ
+    moved = pos (trip * strideSize l)
+
+    index-up : l .stride ≡ pos (strideSize l) → indexAt ps l indexes trip ≡ lowValue +ℤ moved
+    unfolding indexAt
+    index-up e = ap (λ (z : ℤ). lowValue +ℤ pos trip *ℤ z) e
+
+    index-down : l .stride ≡ negℤ (pos (strideSize l)) → indexAt ps l indexes trip ≡ lowValue -ℤ moved
+    unfolding indexAt
+    index-down e = ap (λ (z : ℤ). lowValue +ℤ pos trip *ℤ z) e ∙ ap (λ (z : ℤ). lowValue +ℤ z) (*ℤ-negℤ (pos trip) (pos (strideSize l)))
+
+    -- a trip is made where the index has moved no further than D
+    moved-within : trip < trips ps l indexes → AtMost moved (value ps (difference l) indexes)
+    unfolding trips tripCount
+    moved-within made = counted-at-most (value ps (difference l) indexes) (strideSize l) trip made
+
+    within-made : 1 ≤ strideSize l → AtMost moved (value ps (difference l) indexes) → trip < trips ps l indexes
+    unfolding trips tripCount
+    within-made moves within = at-most-counted (value ps (difference l) indexes) (strideSize l) trip moves within
+
+    -- an index goes no further than the upper form's value
+    index-at-most-upper : countsDown l ≡ false → l .stride ≡ pos (strideSize l) → trip < trips ps l indexes → AtMost (indexAt ps l indexes trip) upValue
+    index-at-most-upper e s made =
+        subst (λ (z : ℤ). AtMost z upValue) (sym (index-up s))
+        (AtMost-restore lowValue moved upValue (subst (AtMost moved) (value-difference-up l indexes e) (moved-within made)))
+
+    upper-at-most-index : countsDown l ≡ true → l .stride ≡ negℤ (pos (strideSize l)) → trip < trips ps l indexes → AtMost upValue (indexAt ps l indexes trip)
+    upper-at-most-index e s made =
+        subst (AtMost upValue) (sym (index-down s))
+        (AtMost-exchange upValue moved lowValue (subst (AtMost moved) (value-difference-down l indexes e) (moved-within made)))
+
+    -- the index has not gone past the upper form's value, in the stride's direction
+    unfoldable pub notPast : Bool
+    notPast = cond (countsDown l) (leZ upValue (indexAt ps l indexes trip)) (leZ (indexAt ps l indexes trip) upValue)
+
+    -- the rule in the loop's own terms: a trip is made exactly where its index has not gone past the upper form's value
+    pub trip-made-exactly : 1 ≤ strideSize l → (trip < trips ps l indexes) ↔ T notPast
+    unfolding notPast
+    trip-made-exactly moves = byDirection (direction l)
+      where
+        index : ℤ
+        index = indexAt ps l indexes trip
+
+        byDirection : Direction l → (trip < trips ps l indexes) ↔ T (cond (countsDown l) (leZ upValue index) (leZ index upValue))
+        byDirection (up e s) =
+            subst (λ (b : Bool). (trip < trips ps l indexes) ↔ T (cond b (leZ upValue index) (leZ index upValue))) (sym e) (
+              λ made. AtMost→leZ index upValue (index-at-most-upper e s made),
+              λ h.
+                  let below : AtMost (lowValue +ℤ moved) upValue = subst (λ (z : ℤ). AtMost z upValue) (index-up s) (leZ→AtMost index upValue h) in
+                  within-made moves (subst (AtMost moved) (sym (value-difference-up l indexes e)) (AtMost-subtract lowValue moved upValue below)),
+            )
+        byDirection (down e s) =
+            subst (λ (b : Bool). (trip < trips ps l indexes) ↔ T (cond b (leZ upValue index) (leZ index upValue))) (sym e) (
+              λ made. AtMost→leZ upValue index (upper-at-most-index e s made),
+              λ h.
+                  let above : AtMost upValue (lowValue -ℤ moved) = subst (AtMost upValue) (index-down s) (leZ→AtMost upValue index h) in
+                  within-made moves (subst (AtMost moved) (sym (value-difference-down l indexes e)) (AtMost-exchange moved upValue lowValue above)),
+            )
+
+    index-within : (ranges : List Range) → Inside indexes ranges → trip < trips ps l indexes → Within (indexAt ps l indexes trip) (indexRange ps l ranges)
+    index-within ranges inside made = byDirection (direction l)
+      where
+        low : Range
+        low = range ps (l .lower) ranges
+
+        high : Range
+        high = range ps (l .upper) ranges
+
+        lowInside : Within lowValue low
+        lowInside = value-inside (l .lower) ranges indexes inside
+
+        highInside : Within upValue high
+        highInside = value-inside (l .upper) ranges indexes inside
+
+        index : ℤ
+        index = indexAt ps l indexes trip
+
+        byDirection : Direction l → Within index (indexRange ps l ranges)
+        byDirection (up e s) = subst (Within index) (sym (indexRange-up l ps ranges e)) (unfold rangeUp in record {
+          low = AtMost-trans (low .lo) lowValue index (lowInside .low) (record { gap = trip * strideSize l; equation = index-up s });
+          high = AtMost-trans index upValue (larger (low .lo) (high .hi)) (index-at-most-upper e s made)
+              (AtMost-trans upValue (high .hi) (larger (low .lo) (high .hi)) (highInside .high) (larger-right (low .lo) (high .hi)));
+        })
+        byDirection (down e s) = subst (Within index) (sym (indexRange-down l ps ranges e)) (unfold rangeDown in record {
+          low = AtMost-trans (smaller (high .lo) (low .hi)) upValue index
+              (AtMost-trans (smaller (high .lo) (low .hi)) (high .lo) upValue (smaller-left (high .lo) (low .hi)) (highInside .low))
+              (upper-at-most-index e s made);
+          high = AtMost-trans index lowValue (low .hi)
+              (subst (λ (z : ℤ). AtMost z lowValue) (sym (index-down s)) (AtMost-less lowValue (trip * strideSize l))) (lowInside .high);
+        })
 
   -- executed indexes lie in their ranges
   pub trips-inside : (l : Loop) (ranges : List Range) (indexes : List ℤ) (trip : ℕ) → Inside indexes ranges → trip < trips ps l indexes →
       Inside (innerIndexes ps l indexes trip) (innerRanges ps l ranges)
   unfolding innerIndexes innerRanges
   trips-inside l ranges indexes trip inside made =
-      inside-append-one indexes ranges (indexAt ps l indexes trip) (indexRange ps l ranges) inside (index-within l ranges indexes trip inside made)
+      inside-append-one indexes ranges (indexAt ps l indexes trip) (indexRange ps l ranges) inside (index-within l indexes trip ranges inside made)
 
   -- ranges inside a loop are not empty where those around it are not
   pub innerRanges-none-empty : (l : Loop) (ranges : List Range) → NoneEmpty ranges → NoneEmpty (innerRanges ps l ranges)
-  unfolding innerRanges indexRange
-  innerRanges-none-empty l ranges proper =
-      none-empty-append-one ranges (indexRange ps l ranges) proper (AtMost→≤ℤ (larger-left (range ps (l .lower) ranges .lo) (range ps (l .upper) ranges .hi)))
+  unfolding innerRanges
+  innerRanges-none-empty l ranges proper = none-empty-append-one ranges (indexRange ps l ranges) proper (byDirection (direction l))
+    where
+      low : Range
+      low = range ps (l .lower) ranges
+
+      high : Range
+      high = range ps (l .upper) ranges
+
+      byDirection : Direction l → indexRange ps l ranges .lo ≤ℤ indexRange ps l ranges .hi
+      byDirection (up e s) =
+          subst (λ (r : Range). r .lo ≤ℤ r .hi) (sym (indexRange-up l ps ranges e)) (unfold rangeUp in AtMost→≤ℤ (larger-left (low .lo) (high .hi)))
+      byDirection (down e s) =
+          subst (λ (r : Range). r .lo ≤ℤ r .hi) (sym (indexRange-down l ps ranges e)) (unfold rangeDown in AtMost→≤ℤ (smaller-right (high .lo) (low .hi)))
 
   -- no loop makes more trips than its ceiling
   pub trips-ceiling : (l : Loop) (ranges : List Range) (indexes : List ℤ) → Inside indexes ranges → trips ps l indexes ≤ ceiling ps l ranges

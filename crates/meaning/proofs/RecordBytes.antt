@@ -20,6 +20,7 @@ use Rattle.meaning.specs.Record.{decodeRecord, skipBytes, bodyBytes, Ope
 use Rattle.meaning.proofs.Logic.{T-and, none-is-not-some}
 use Rattle.meaning.proofs.Number.{Bytes, bytes-getD, length-littleEndian, unsigned-littleEndian, littleEndian-unsigned}
 use Rattle.meaning.proofs.Number.{unsigned-bound, decode-encode, encode-decode, encode-bound}
+use Rattle.meaning.proofs.Strides.{stride-pattern}
 use Rattle.meaning.proofs.Accepted.{FormInRange, loop-in-range, work-in-range}
 
 -- ---- kinds
@@ -107,9 +108,9 @@ module _ (body : List ℕ) (h : Bytes body) where
   unfolding bodyBytes skipBytes decodeRecord skipWhere bodyLength
   bodyBytes-decodeRecord workKind e = (λ t. unsigned16-bytes 0 t ++ unsigned16-bytes 2 t) ∙ elements 4 body 0 e
   bodyBytes-decodeRecord (loopKind false) e =
-      (λ t. unsigned16-bytes 0 t ++ unsigned16-bytes 2 t ++ unsigned16-bytes 4 t ++ formAt-bytes 6 t ++ formAt-bytes 15 t ++ []) ∙ elements 24 body 0 e
+      (λ t. unsigned16-bytes 0 t ++ unsigned16-bytes 2 t ++ signed16-bytes 4 t ++ formAt-bytes 6 t ++ formAt-bytes 15 t ++ []) ∙ elements 24 body 0 e
   bodyBytes-decodeRecord (loopKind true) e =
-      (λ t. unsigned16-bytes 0 t ++ unsigned16-bytes 2 t ++ unsigned16-bytes 4 t ++ formAt-bytes 6 t ++ formAt-bytes 15 t ++ unsigned16-bytes 24 t)
+      (λ t. unsigned16-bytes 0 t ++ unsigned16-bytes 2 t ++ signed16-bytes 4 t ++ formAt-bytes 6 t ++ formAt-bytes 15 t ++ unsigned16-bytes 24 t)
       ∙ elements 26 body 0 e
   bodyBytes-decodeRecord endKind e = elements 0 body 0 e
   bodyBytes-decodeRecord choiceKind e = elements 0 body 0 e
@@ -143,6 +144,12 @@ factor-fits [] t i = unfold hasPattern in tt
 factor-fits (x ∷ xs) t zero = T-and (hasPattern factorHalf x) (factorsFit xs) t .0
 factor-fits (x ∷ xs) t (suc i) = factor-fits xs (T-and (hasPattern factorHalf x) (factorsFit xs) t .1) i
 
+-- a signed number of 16 bits is read back
+signed-littleEndian : (z : ℤ) → T (hasPattern constantHalf z) → decodeSigned constantHalf (unsigned (littleEndian 2 (encodeSigned constantHalf z))) ≡ z
+signed-littleEndian z fits =
+    ap (decodeSigned constantHalf) (unsigned-littleEndian 2 (encodeSigned constantHalf z) (encode-bound constantHalf z fits))
+    ∙ decode-encode constantHalf z fits
+
 module _ (depth : ℕ) (f : Form) (i : FormInRange depth f) where
   pub length-formBytes : length (formBytes f) ≡ 9
   unfolding formBytes
@@ -167,10 +174,7 @@ module _ (depth : ℕ) (f : Form) (i : FormInRange depth f) where
       }
 
       c : decodeSigned constantHalf (unsigned (littleEndian 2 (encodeSigned constantHalf (f .constant)))) ≡ f .constant
-      c =
-          ap (decodeSigned constantHalf) (unsigned-littleEndian 2 (encodeSigned constantHalf (f .constant))
-          (encode-bound constantHalf (f .constant) (i .constantFits)))
-          ∙ decode-encode constantHalf (f .constant) (i .constantFits)
+      c = signed-littleEndian (f .constant) (i .constantFits)
 
       p : (n : ℕ) → decodeSigned factorHalf (encodeSigned factorHalf (x n)) ≡ x n
       p n = decode-encode factorHalf (x n) (factor-fits (f .index) (i .indexFit) n)
@@ -183,15 +187,15 @@ module _ (depth : ℕ) (f : Form) (i : FormInRange depth f) where
       decoded = λ t. record { constant = c t; index = p 0 t ∷ p 1 t ∷ p 2 t ∷ []; parameter = q 0 t ∷ q 1 t ∷ q 2 t ∷ q 3 t ∷ [] }
 
 -- a loop whose fields fit their bytes is read back
-module _ (depth : ℕ) (l : Loop) (startFits : l .start < 2 ^ 16) (stepFits : l .step < 2 ^ 16) (strideFits : l .stride < 2 ^ 16)
+module _ (depth : ℕ) (l : Loop) (startFits : l .start < 2 ^ 16) (stepFits : l .step < 2 ^ 16) (strideFits : T (hasPattern constantHalf (l .stride)))
     (lowerFits : FormInRange depth (l .lower)) (upperFits : FormInRange depth (l .upper)) (skipFits : skipCycles l < 2 ^ 16) where
   pub loop-decoded : decodeRecord (kind (loopRecord l)) (bodyBytes (loopRecord l)) ≡ loopRecord l
-  unfolding decodeRecord kind isGiven skipWhere bodyBytes unsigned16 littleEndian
+  unfolding decodeRecord kind isGiven skipWhere bodyBytes unsigned16 signed16 littleEndian
   loop-decoded =
       λ t. loopRecord (record {
         start = unsigned-littleEndian 2 (l .start) startFits t;
         step = unsigned-littleEndian 2 (l .step) stepFits t;
-        stride = unsigned-littleEndian 2 (l .stride) strideFits t;
+        stride = signed-littleEndian (l .stride) strideFits t;
         lower = lower t;
         upper = upper t;
         skip = skip (l .skip) refl t;
@@ -256,7 +260,7 @@ module _ (os : List Open) where
       λ s. workRecord (unsigned-littleEndian 2 least (omega (arith, w .ordered, w .mostSmall)) s) (unsigned-littleEndian 2 most (omega (arith, w .mostSmall)) s)
   decodeRecord-bodyBytes (loopRecord l) t =
       let i = loop-in-range os l t in
-      loop-decoded (loopDepth os) l (omega (arith, i .startSmall)) (omega (arith, i .stepSmall)) (omega (arith, i .strideSmall)) (i .lowerInRange) (i .upperInRange) (omega (arith, i .skipSmall))
+      loop-decoded (loopDepth os) l (omega (arith, i .startSmall)) (omega (arith, i .stepSmall)) (stride-pattern l (i .strideSmall)) (i .lowerInRange) (i .upperInRange) (omega (arith, i .skipSmall))
   decodeRecord-bodyBytes endRecord t = refl
   decodeRecord-bodyBytes choiceRecord t = refl
   decodeRecord-bodyBytes nextArmRecord t = refl

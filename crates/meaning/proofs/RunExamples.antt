@@ -22,11 +22,11 @@ outerIndex = record { constant = pos 0; index = pos 1 ∷ pos 0 ∷ pos 0 ∷ []
 
 -- i 0 to 1
 abbrev twoTrips : Loop
-twoTrips = record { start = 0; step = 0; stride = 1; lower = constantForm 0; upper = constantForm 1; skip = none }
+twoTrips = record { start = 0; step = 0; stride = pos 1; lower = constantForm 0; upper = constantForm 1; skip = none }
 
 -- j 0 to i
 abbrev upToOuter : Loop
-upToOuter = record { start = 0; step = 0; stride = 1; lower = constantForm 0; upper = outerIndex; skip = none }
+upToOuter = record { start = 0; step = 0; stride = pos 1; lower = constantForm 0; upper = outerIndex; skip = none }
 
 -- the parameters are of no matter here
 abbrev ps : List ℤ

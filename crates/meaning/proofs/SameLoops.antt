@@ -4,13 +4,13 @@ use mathlib.Core.List.{List, [], _∷_}
 use mathlib.Core.Bool.{Bool, true, false, cond, _&&_}
 use mathlib.Core.Option.{some}
 use Prim.Native.Nat.{ℕ, zero, suc}
-use lib.IntN.{ℤ, pos, negℤ}
+use lib.IntN.{ℤ, pos, negℤ, natAbs}
+use lib.Signed.{ltZ}
 use lib.Dec.{eqb}
 use borrow.Author.Tests.{eqb-true}
-use Rattle.meaning.specs.Record.{Loop, skipOr, skipCycles}
+use Rattle.meaning.specs.Record.{Loop, strideSize, countsDown, skipOr, skipCycles}
 use Rattle.whole.specs.Integer.{divides}
-use Rattle.meaning.specs.Form.{subtract}
-use Rattle.meaning.specs.Time.{difference, strideSize, entryCost}
+use Rattle.meaning.specs.Time.{differenceUp, differenceDown, difference, entryCost}
 use Rattle.meaning.specs.Closed.{push, strideDivides, askedDifference}
 use Rattle.meaning.specs.Converter.{withSkip, withoutSkip}
 
@@ -64,9 +64,10 @@ module _ {l m : Loop} (s : SameLoop l m) where
 
   pub same-asked : askedDifference m ≡ askedDifference l
   unfolding askedDifference strideSize
-  same-asked = λ t. cond (eqb (s .skips t) (s .start t)) (negℤ (pos (s .stride t))) (pos zero)
+  same-asked = λ t. cond (eqb (s .skips t) (s .start t)) (negℤ (pos (natAbs (s .stride t)))) (pos zero)
 
   pub same-divides : (pushes : List (List ℤ)) → strideDivides m pushes ≡ strideDivides l pushes
-  unfolding strideDivides strideSize difference
+  unfolding strideDivides strideSize difference countsDown
   same-divides [] = refl
-  same-divides (p ∷ others) = λ t. divides (s .stride t) (push (subtract (s .upper t) (s .lower t)) p) && same-divides others t
+  same-divides (p ∷ others) = λ t. divides (natAbs (s .stride t)) (push (cond (ltZ (s .stride t) (pos zero)) (differenceDown (s .lower t) (s .upper t)) (differenceUp (s .lower t) (s .upper t))) p)
+      && same-divides others t

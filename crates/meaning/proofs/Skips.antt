@@ -8,8 +8,8 @@ use lib.Dec.{T, eqb, eqb→eq, eqb-refl}
 use Rattle.whole.specs.Integer.{atLeastZero, floorDivide}
 use Rattle.whole.proofs.Order.{AtMost, AtMost-trans, leZ→AtMost, AtMost→leZ}
 use Rattle.whole.proofs.Floor.{count-pos}
-use Rattle.meaning.specs.Record.{Loop, skipCycles}
-use Rattle.meaning.specs.Time.{strideSize, entryCost, tripCount}
+use Rattle.meaning.specs.Record.{Loop, strideSize, skipCycles}
+use Rattle.meaning.specs.Time.{entryCost, tripCount}
 use Rattle.meaning.specs.Closed.{askedDifference}
 
 module _ (l : Loop) where

@@ -1,9 +1,9 @@
 -- What the reader's tests leave true of a tree: works ordered and small, loops with a stride and small costs.
 use Prim.Native.Nat.{ℕ, _≤_}
 use Rattle.meaning.specs.Limits.{costLimit}
-use Rattle.meaning.specs.Record.{Loop}
+use Rattle.meaning.specs.Record.{Loop, strideSize}
 use Rattle.meaning.specs.Tree.{Block, Arms, empty, work, loop, choice, lastArm, arm}
-use Rattle.meaning.specs.Time.{strideSize, entryCost}
+use Rattle.meaning.specs.Time.{entryCost}
 
 pub record WorkSound (least most : ℕ) : Type 0 where
   pub ordered : least ≤ most

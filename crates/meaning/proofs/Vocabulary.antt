@@ -42,16 +42,16 @@ abbrev pub form : ℤ → List ℤ → List ℤ → Form
 form constant index parameter = record { constant = constant; index = index; parameter = parameter }
 
 -- of kind 2
-abbrev pub loopOf : ℕ → ℕ → ℕ → Form → Form → Loop
+abbrev pub loopOf : ℕ → ℕ → ℤ → Form → Form → Loop
 loopOf start step stride lower upper =
     record { start = start; step = step; stride = stride; lower = lower; upper = upper; skip = none }
 
 -- of kind 6
-abbrev pub skipLoopOf : ℕ → ℕ → ℕ → Form → Form → ℕ → Loop
+abbrev pub skipLoopOf : ℕ → ℕ → ℤ → Form → Form → ℕ → Loop
 skipLoopOf start step stride lower upper skip =
     record { start = start; step = step; stride = stride; lower = lower; upper = upper; skip = some skip }
 
-abbrev pub raw : ℕ → ℕ → ℕ → ℕ → ℕ → ℕ → Form → Form → ℕ → RawRecord
+abbrev pub raw : ℕ → ℕ → ℕ → ℕ → ℕ → ℤ → Form → Form → ℕ → RawRecord
 raw kindByte least most start step stride lower upper skip = record {
   kindByte = kindByte;
   least = least;

@@ -8,9 +8,9 @@ use lib.Dec.{eqb}
 use lib.ListN.{length, replicate}
 use Rattle.whole.specs.Integer.{dot, divides}
 use Rattle.meaning.specs.Form.{Form}
-use Rattle.meaning.specs.Record.{Loop, skipCycles}
+use Rattle.meaning.specs.Record.{Loop, strideSize, skipCycles}
 use Rattle.meaning.specs.Tree.{Block, empty, work, loop, choice, armsLoops}
-use Rattle.meaning.specs.Time.{difference, signedStride, strideSize}
+use Rattle.meaning.specs.Time.{difference}
 use Rattle.meaning.specs.Range.{Range, innerRanges, differenceRange}
 
 -- document 01: push of a loop on a form: what its next trip adds to the form's value, where `pushes` has what it adds to the indexes at
@@ -18,9 +18,9 @@ use Rattle.meaning.specs.Range.{Range, innerRanges, differenceRange}
 unfoldable pub push : Form → List ℤ → ℤ
 push f pushes = dot (f .index) pushes
 
--- a loop's pushes on the indexes up to its own, `depth` loops being around it: its own index moves by its stride
+-- a loop's pushes on the indexes up to its own, `depth` loops being around it: its own index moves by its stride, sign kept
 unfoldable pub pushOwn : Loop → ℕ → List ℤ
-pushOwn l depth = replicate depth (pos zero) ++ (signedStride l ∷ [])
+pushOwn l depth = replicate depth (pos zero) ++ (l .stride ∷ [])
 
 -- another loop's pushes, with the one on the index of loop l just inside: a deeper index moves by its lower form
 unfoldable pub pushInner : Loop → List ℤ → List ℤ
@@ -31,12 +31,12 @@ unfoldable pub nestPushes : List Loop → List ℤ → List ℤ
 nestPushes [] pushes = pushes
 nestPushes (l ∷ inner) pushes = nestPushes inner (pushInner l pushes)
 
--- the loop's stride divides the push on its D of each of the loops
+-- the size of the loop's stride divides the push on its D of each of the loops
 unfoldable pub strideDivides : Loop → List (List ℤ) → Bool
 strideDivides l [] = true
 strideDivides l (pushes ∷ others) = divides (strideSize l) (push (difference l) pushes) && strideDivides l others
 
--- the smallest D that closing a loop asks of a loop inside it: minus that one's stride; document 02: "Where skip and start differ", 0
+-- the smallest D that closing a loop asks of a loop inside it: minus the size of that one's stride; document 02: "Where skip and start differ", 0
 unfoldable pub askedDifference : Loop → ℤ
 askedDifference l = cond (eqb (skipCycles l) (l .start)) (negℤ (pos (strideSize l))) (pos zero)
 

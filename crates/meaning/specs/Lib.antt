@@ -9,7 +9,6 @@ pub mod Time
 pub mod Run
 pub mod Range
 pub mod Closed
-pub mod FirstReader
 pub mod Visits
 pub mod Place
 pub mod Reason
@@ -20,6 +19,7 @@ pub mod Stage
 pub mod Answer
 pub mod Converter
 pub mod Moved
+pub mod EarlierReaders
 pub mod CCall
 pub mod Text
 pub mod ReasonLine

@@ -21,14 +21,14 @@ recordLengthLimit = 1 + bodyLimit
 abbrev pub sheetLengthLimit : ℕ
 sheetLengthLimit = recordLimit * recordLengthLimit
 
--- "The sheet": the largest most of a work, start, step and skip of a loop; a loop's largest stride
+-- "The sheet": the largest most of a work, start, step and skip of a loop; a stride's largest size
 abbrev pub costLimit : ℕ
 costLimit = 4095
 
 abbrev pub strideLimit : ℕ
 strideLimit = 1000
 
--- a form's constant has 16 bits, its factors 8: half of the patterns of each are negative
+-- a stride and a form's constant have 16 bits, its factors 8: half of the patterns of each are negative
 abbrev pub constantHalf : ℕ
 constantHalf = 32768
 

@@ -39,13 +39,13 @@ unfoldable pub endOfSheet : {A : Type 0} → ℕ → List Open → A → Result 
 endOfSheet at [] a = ok a
 endOfSheet at (o ∷ os) a = refused 5 at
 
--- where a byte names one of these kinds, or none
-module _ (kinds : ℕ → Option Kind) where
+-- where a byte names one of these kinds, or none, and a body of a kind is decoded so
+module _ (kinds : ℕ → Option Kind) (decode : Kind → List ℕ → Record) where
   -- one record at `at`, where its first byte is `kindByte` and `bytes` follow: refusals 2, 1, 3 and 5 in this order
   unfoldable pub readRecordOf : ℕ → List Open → ℕ → List ℕ → Result Accepted
   readRecordOf at os kindByte bytes =
       andThen (orRefuse (kinds kindByte) 2 at) λ k.
-      require (leb (bodyLength k) (length bytes)) 1 at (accept at os (decodeRecord k (take (bodyLength k) bytes)))
+      require (leb (bodyLength k) (length bytes)) 1 at (accept at os (decode k (take (bodyLength k) bytes)))
 
   -- from `at` on, where os is open, at most `left` further records
   unfoldable pub readFromOf : ℕ → ℕ → List Open → List ℕ → Result (List Record)
@@ -57,12 +57,12 @@ module _ (kinds : ℕ → Option Kind) where
       andThen (readFromOf left (at + recordLength (a .accepted)) (a .after) (drop (bodyLength (kind (a .accepted))) bytes)) λ rs.
       ok (a .accepted ∷ rs)
 
--- with the kinds that there are
+-- with the kinds that there are, and the fields that they have
 abbrev pub readRecord : ℕ → List Open → ℕ → List ℕ → Result Accepted
-readRecord = readRecordOf kindOf
+readRecord = readRecordOf kindOf decodeRecord
 
 abbrev pub readFrom : ℕ → ℕ → List Open → List ℕ → Result (List Record)
-readFrom = readFromOf kindOf
+readFrom = readFromOf kindOf decodeRecord
 
 -- document 01: the reader
 unfoldable pub read : List ℕ → Result (List Record)

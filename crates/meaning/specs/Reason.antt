@@ -8,9 +8,9 @@ use lib.Signed.{leZ}
 use lib.Dec.{eqb}
 use lib.ListN.{length}
 use Rattle.whole.specs.Integer.{divides}
-use Rattle.meaning.specs.Record.{Loop, workRecord, loopRecord, choiceRecord, nextArmRecord, recordLength, sheetLength}
+use Rattle.meaning.specs.Record.{Loop, strideSize, workRecord, loopRecord, choiceRecord, nextArmRecord, recordLength, sheetLength}
 use Rattle.meaning.specs.Tree.{Block, Arms, empty, work, loop, choice, lastArm, arm, records, armsLoops}
-use Rattle.meaning.specs.Time.{difference, strideSize}
+use Rattle.meaning.specs.Time.{difference}
 use Rattle.meaning.specs.Range.{Range, innerRanges, differenceRange}
 use Rattle.meaning.specs.Closed.{push, pushOwn, pushInner, askedDifference}
 use Rattle.meaning.specs.Place.{afterLoop, afterChoice}
@@ -58,7 +58,7 @@ unfoldable pub aroundWith : Loop → ℕ → ℕ → List Around → List Around
 aroundWith l depth at around =
     map (λ m. record { offset = m .offset; pushes = pushInner l (m .pushes) }) around ++ (record { offset = at; pushes = pushOwn l depth } ∷ [])
 
--- "M from the outermost inward": K's stride does not divide M's push on K's D
+-- "M from the outermost inward": the size of K's stride does not divide M's push on K's D
 unfoldable pub unevenTests : Loop → ℕ → List Around → List Test
 unevenTests k at around =
     map (λ m. record { reason = unevenIn at (m .offset); fails = not (divides (strideSize k) (push (difference k) (m .pushes))) }) around

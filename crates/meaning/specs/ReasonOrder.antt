@@ -10,9 +10,9 @@ use lib.Signed.{leZ}
 use lib.Dec.{T}
 use lib.ListN.{length}
 use Rattle.whole.specs.Integer.{divides}
-use Rattle.meaning.specs.Record.{Loop, Record, workRecord, loopRecord, choiceRecord, nextArmRecord, recordLength, sheetLength}
+use Rattle.meaning.specs.Record.{Loop, strideSize, Record, workRecord, loopRecord, choiceRecord, nextArmRecord, recordLength, sheetLength}
 use Rattle.meaning.specs.Tree.{Block, Arms, empty, work, loop, choice, lastArm, arm, records, armsLoops}
-use Rattle.meaning.specs.Time.{difference, strideSize}
+use Rattle.meaning.specs.Time.{difference}
 use Rattle.meaning.specs.Range.{Range, rangesInside, differenceRange}
 use Rattle.meaning.specs.Closed.{push, pushOwn, nestPushes, askedDifference, closed}
 use Rattle.meaning.specs.Place.{afterLoop, afterChoice}
@@ -71,7 +71,7 @@ loopsOf ps = map (λ p. p .placed) ps
 
 module _ (parameters : List ℤ) (l : Loop) (body : Block) (ranges : List Range) (at : ℕ) where
   -- the part of document 01's definition of closed that fails for the loop l at an offset: a choice inside it has a loop in an arm; K's smallest D is less
-  -- than closing asks; K's stride does not divide the push on K's D of M, which is that loop or one between
+  -- than closing asks; the size of K's stride does not divide the push on K's D of M, which is that loop or one between
   pub data Fails : Reason → Type 0 where
     choiceFails : {c : ℕ} (arms : Arms) → ChoiceIn body (at + recordLength (loopRecord l)) c arms → (armsLoops arms ≡ zero → ⊥) → Fails (holdsLoop c)
     smallestFails : {k : ℕ} (between : List Placed) (found : Loop) → LoopIn body (at + recordLength (loopRecord l)) between k found →

@@ -5,8 +5,10 @@ use mathlib.Core.Option.{Option, none, some}
 use Prim.Native.Nat.{ℕ, zero, suc, _+_}
 use lib.Dec.{leb, ltb, eqb}
 use lib.ListN.{length}
-use Rattle.meaning.specs.Limits.{depthLimit, openLimit, costLimit, strideLimit}
-use Rattle.meaning.specs.Number.{littleEndian, unsigned16}
+use lib.IntN.{ℤ, pos, natAbs}
+use lib.Signed.{ltZ}
+use Rattle.meaning.specs.Limits.{depthLimit, openLimit, costLimit, strideLimit, constantHalf}
+use Rattle.meaning.specs.Number.{littleEndian, encodeSigned, unsigned16, signed16}
 use Rattle.meaning.specs.Form.{Form, formAt, formBytes, formInRange}
 
 -- kind 2 is a loop without a skip, kind 6 (document 02, C-12) one with a skip
@@ -42,10 +44,18 @@ bodyLength nextArmKind = 0
 pub record Loop : Type 0 where
   pub start : ℕ
   pub step : ℕ
-  pub stride : ℕ
+  pub stride : ℤ
   pub lower : Form
   pub upper : Form
   pub skip : Option ℕ
+
+-- document 02, C-17: "The stride field becomes signed"; its size
+unfoldable pub strideSize : Loop → ℕ
+strideSize l = natAbs (l .stride)
+
+-- and the direction: a negative stride counts down
+unfoldable pub countsDown : Loop → Bool
+countsDown l = ltZ (l .stride) (pos zero)
 
 unfoldable pub isGiven : Option ℕ → Bool
 isGiven (some skip) = true
@@ -89,7 +99,7 @@ decodeRecord (loopKind hasSkip) body =
     loopRecord (record {
       start = unsigned16 body 0;
       step = unsigned16 body 2;
-      stride = unsigned16 body 4;
+      stride = signed16 body 4;
       lower = formAt body 6;
       upper = formAt body 15;
       skip = skipWhere hasSkip (unsigned16 body 24);
@@ -105,7 +115,7 @@ skipBytes none = []
 unfoldable pub bodyBytes : Record → List ℕ
 bodyBytes (workRecord least most) = littleEndian 2 least ++ littleEndian 2 most
 bodyBytes (loopRecord l) =
-    littleEndian 2 (l .start) ++ littleEndian 2 (l .step) ++ littleEndian 2 (l .stride) ++ formBytes (l .lower) ++ formBytes (l .upper)
+    littleEndian 2 (l .start) ++ littleEndian 2 (l .step) ++ littleEndian 2 (encodeSigned constantHalf (l .stride)) ++ formBytes (l .lower) ++ formBytes (l .upper)
     ++ skipBytes (l .skip)
 bodyBytes endRecord = []
 bodyBytes choiceRecord = []
@@ -134,11 +144,11 @@ loopDepth [] = zero
 loopDepth (openLoop ∷ os) = suc (loopDepth os)
 loopDepth (openChoice ∷ os) = loopDepth os
 
--- refusal 3 falls where this is false. What is open stands innermost first.
+-- refusal 3 falls where this is false; a stride lies from -1,000 to 1,000 and is not 0. What is open stands innermost first.
 unfoldable pub fieldsInRange : List Open → Record → Bool
 fieldsInRange os (workRecord least most) = leb least most && leb most costLimit
 fieldsInRange os (loopRecord l) =
-    leb (l .start) costLimit && leb (l .step) costLimit && leb 1 (l .stride) && leb (l .stride) strideLimit
+    leb (l .start) costLimit && leb (l .step) costLimit && leb 1 (strideSize l) && leb (strideSize l) strideLimit
     && formInRange (loopDepth os) (l .lower) && formInRange (loopDepth os) (l .upper) && leb (skipCycles l) costLimit
 fieldsInRange os endRecord = true
 fieldsInRange os choiceRecord = true

@@ -1,23 +1,24 @@
 -- Trips, and the time trip by trip (equation 1 of document 003): least and most together.
 use mathlib.Core.List.{List, [], _∷_, _++_}
+use mathlib.Core.Bool.{cond}
 use Prim.Native.Nat.{ℕ, zero, suc, _+_, min, max}
 use lib.IntN.{ℤ, pos, sucℤ, _+ℤ_, _*ℤ_}
 use Rattle.whole.specs.Integer.{atLeastZero, floorDivide}
 use Rattle.meaning.specs.Form.{Form, value, subtract}
-use Rattle.meaning.specs.Record.{Loop, skipCycles}
+use Rattle.meaning.specs.Record.{Loop, strideSize, countsDown, skipCycles}
 use Rattle.meaning.specs.Tree.{Block, Arms, empty, work, loop, choice, lastArm, arm}
 
--- document 01: D, upper minus lower form
+-- "Let D be upper minus lower form"
+abbrev pub differenceUp : Form → Form → Form
+differenceUp lower upper = subtract upper lower
+
+-- document 02: "For a negative stride D is lower form minus upper form"
+abbrev pub differenceDown : Form → Form → Form
+differenceDown lower upper = subtract lower upper
+
+-- document 01: D
 unfoldable pub difference : Loop → Form
-difference l = subtract (l .upper) (l .lower)
-
--- what a trip adds to the loop's index: its stride, with its sign
-unfoldable pub signedStride : Loop → ℤ
-signedStride l = pos (l .stride)
-
--- the stride's size
-unfoldable pub strideSize : Loop → ℕ
-strideSize l = l .stride
+difference l = cond (countsDown l) (differenceDown (l .lower) (l .upper)) (differenceUp (l .lower) (l .upper))
 
 -- what entering the loop costs, where it makes so many trips: "Its time is start, plus .."; document 02: skip "in place of start when there are
 -- no trips"
@@ -25,7 +26,7 @@ unfoldable pub entryCost : Loop → ℕ → ℕ
 entryCost l zero = skipCycles l
 entryCost l (suc trips) = l .start
 
--- max(0, floor(D ÷ stride) + 1)
+-- max(0, floor(D ÷ stride) + 1), by the stride's size
 unfoldable pub tripCount : ℤ → ℕ → ℕ
 tripCount d stride = atLeastZero (sucℤ (floorDivide d stride))
 
@@ -59,9 +60,9 @@ module _ (parameters : List ℤ) where
   unfoldable pub trips : Loop → List ℤ → ℕ
   trips l indexes = tripCount (value parameters (difference l) indexes) (strideSize l)
 
-  -- the index in a trip, trips counted from 0: it starts at the lower form and grows by the stride
+  -- the index in a trip, trips counted from 0: it starts at the lower form, and "A trip moves it by the stride, sign kept"
   unfoldable pub indexAt : Loop → List ℤ → ℕ → ℤ
-  indexAt l indexes trip = value parameters (l .lower) indexes +ℤ pos trip *ℤ signedStride l
+  indexAt l indexes trip = value parameters (l .lower) indexes +ℤ pos trip *ℤ l .stride
 
   -- the indexes inside loop l in one of its trips
   unfoldable pub innerIndexes : Loop → List ℤ → ℕ → List ℤ

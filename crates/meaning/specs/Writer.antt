@@ -2,6 +2,7 @@
 use mathlib.Core.List.{List, [], _∷_, _++_}
 use mathlib.Core.Bool.{Bool, true, false, _&&_}
 use Prim.Native.Nat.{ℕ, _+_}
+use lib.IntN.{ℤ}
 use lib.Dec.{leb, eqb}
 use lib.ListN.{length, take, drop}
 use Rattle.meaning.specs.Limits.{recordLimit}
@@ -17,7 +18,7 @@ pub record RawRecord : Type 0 where
   pub most : ℕ
   pub start : ℕ
   pub step : ℕ
-  pub stride : ℕ
+  pub stride : ℤ
   pub lower : Form
   pub upper : Form
   pub skip : ℕ
@@ -33,7 +34,7 @@ skipZero r = eqb (r .skip) 0
 
 -- all fields of a loop, the skip among them
 unfoldable pub loopFieldsZero : RawRecord → Bool
-loopFieldsZero r = eqb (r .start) 0 && eqb (r .step) 0 && eqb (r .stride) 0 && formZero (r .lower) && formZero (r .upper) && skipZero r
+loopFieldsZero r = eqb (r .start) 0 && eqb (r .step) 0 && isZero (r .stride) && formZero (r .lower) && formZero (r .upper) && skipZero r
 
 -- "3 also for a nonzero field that its kind does not have"
 unfoldable pub foreignFieldsZero : Kind → RawRecord → Bool

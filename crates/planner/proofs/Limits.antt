@@ -14,9 +14,9 @@ use lib.IntN.{ℤ}
 use borrow.Author.Tests.{lt-ltb, le-ltb, ne-eqb}
 use Rattle.whole.specs.Integer.{divides}
 use Rattle.meaning.specs.Tree.{Arms, Block, arm, armsHeight, armsLoops, armsRecords, choice, empty, height, lastArm, loop, loops, records, work}
-use Rattle.meaning.specs.Record.{Loop, Open, Record, endRecord, loopDepth, nextArmRecord, openChoice, openLoop}
+use Rattle.meaning.specs.Record.{Loop, strideSize, Open, Record, endRecord, loopDepth, nextArmRecord, openChoice, openLoop}
 use Rattle.meaning.specs.Closed.{LoopClass, askedDifference, closable, closed, closedClass, loopClass, push, pushInner, pushOwn, strideDivides, walkedClass}
-use Rattle.meaning.specs.Time.{difference, strideSize}
+use Rattle.meaning.specs.Time.{difference}
 use Rattle.meaning.specs.Range.{differenceRange, innerRanges}
 use Rattle.nest.specs.Walk.{opensAfter, recordsInside}
 use Rattle.nest.proofs.RowsOf.{recordsInside-body}

@@ -8,8 +8,8 @@ use native.Mathlib.Omega.{arith}
 use lib.ListN.{drop, getD, length, length-append, length-map, take}
 use lib.Seq.{getD-at}
 use lib.IntN.{pos, ℤ}
-use Rattle.meaning.specs.Record.{Loop, Open, kind, loopRecord, choiceRecord, endRecord, nextArmRecord, sheetLength, workRecord, Record}
-use Rattle.meaning.specs.Time.{difference, strideSize}
+use Rattle.meaning.specs.Record.{Loop, strideSize, Open, kind, loopRecord, choiceRecord, endRecord, nextArmRecord, sheetLength, workRecord, Record}
+use Rattle.meaning.specs.Time.{difference}
 use Rattle.meaning.specs.Tree.{height, tree}
 use Rattle.meaning.specs.Limits.{indexFactors, recordLimit}
 use Rattle.meaning.specs.Closed.{closed, closedClass, loopClass, push, walkedClass}

@@ -14,8 +14,8 @@ use lib.Seq.{drop-cons, length-take-le}
 use Rattle.whole.specs.Integer.{divides}
 use Rattle.meaning.specs.Limits.{indexFactors, recordLimit}
 use Rattle.meaning.specs.Tree.{Block, records, tree}
-use Rattle.meaning.specs.Record.{Loop, Open, Record, choiceRecord, endRecord, kind, loopDepth, loopRecord, nextArmRecord, openChoice, recordLength, sheetLength, workRecord}
-use Rattle.meaning.specs.Time.{difference, strideSize}
+use Rattle.meaning.specs.Record.{Loop, strideSize, Open, Record, choiceRecord, endRecord, kind, loopDepth, loopRecord, nextArmRecord, openChoice, recordLength, sheetLength, workRecord}
+use Rattle.meaning.specs.Time.{difference}
 use Rattle.meaning.specs.Closed.{push}
 use Rattle.meaning.specs.Reason.{Around, Test, closingTests, firstFailing, holdsLoop, ownTests, reasonOf, tooFewTrips, unevenIn, unevenTests}
 use Rattle.meaning.proofs.Accepted.{InPlace}

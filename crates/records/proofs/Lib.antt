@@ -1,3 +1,4 @@
 pub mod Tests
 pub mod ByKind
+pub mod Strides
 pub mod Ranges

@@ -6,7 +6,7 @@ use mathlib.Core.Bool.{Bool, true, false, cond, _&&_, _||_, and-true}
 use Prim.Native.Nat.{ℕ, zero, suc, _+_, _-_, _<_, _≤_}
 use native.Mathlib.Omega.{arith}
 use borrow.Author.Tests.{ltb-false, lt-ltb, le-leb, ne-eqb}
-use lib.IntN.{ℤ, pos, negsuc}
+use lib.IntN.{ℤ, pos, negsuc, natAbs}
 use lib.Signed.{mag}
 use lib.ListN.{getD, drop}
 use lib.Seq.{drop-nil}
@@ -14,7 +14,7 @@ use lib.Dec.{leb, ltb, eqb}
 use Rattle.meaning.specs.Limits.{costLimit, strideLimit, constantHalf, factorHalf}
 use Rattle.meaning.specs.Number.{decodeSigned, hasPattern, unsigned16, signed16, signed8}
 use Rattle.meaning.specs.Form.{formAt, isZero, allZero, factorsFit, formInRange}
-use Rattle.meaning.specs.Record.{workKind, loopKind, skipCycles, decodeRecord, Open, loopDepth, fieldsInRange}
+use Rattle.meaning.specs.Record.{workKind, loopKind, strideSize, skipCycles, decodeRecord, Open, loopDepth, fieldsInRange}
 use Rattle.meaning.proofs.Accepted.{loop-in-range}
 use Rattle.records.specs.View.{skipIn}
 use Rattle.records.proofs.Tests.{and-pass, and-stop, refuted}
@@ -123,19 +123,19 @@ module _ (os : List Open) {depth : ℕ} (deep : loopDepth os ≡ depth) (body : 
   unfolding decodeRecord skipCycles
   skip-over p h = refuted inRange λ t. omega (arith, loop-in-range os _ t .skipSmall)
 
-  pub stride-off : {stride : ℕ} → stride ≡ unsigned16 body 4 → (stride < 1) ⊎ (strideLimit < stride) → false ≡ inRange
-  unfolding decodeRecord
+  pub stride-off : {size : ℕ} → size ≡ natAbs (signed16 body 4) → (size < 1) ⊎ (strideLimit < size) → false ≡ inRange
+  unfolding decodeRecord strideSize
   stride-off p h =
       refuted inRange λ t.
       let r = loop-in-range os _ t in
       ⊎-elim (λ a. omega (arith, r .moves)) (λ a. omega (arith, r .strideSmall)) h
 
-  module _ {start step skip stride : ℕ} (p : start ≡ unsigned16 body 0) (q : step ≡ unsigned16 body 2) (s : skip ≡ skipIn hasSkip body)
-      (r : stride ≡ unsigned16 body 4) (a : start ≤ costLimit) (b : step ≤ costLimit) (c : skip ≤ costLimit) (l : 1 ≤ stride) (h : stride ≤ strideLimit) where
+  module _ {start step skip size : ℕ} (p : start ≡ unsigned16 body 0) (q : step ≡ unsigned16 body 2) (s : skip ≡ skipIn hasSkip body)
+      (r : size ≡ natAbs (signed16 body 4)) (a : start ≤ costLimit) (b : step ≤ costLimit) (c : skip ≤ costLimit) (l : 1 ≤ size) (h : size ≤ strideLimit) where
     factors-left : enclosed body 8 depth && enclosed body 17 depth ≡ inRange
-    unfolding fieldsInRange decodeRecord formAt skipCycles
+    unfolding fieldsInRange decodeRecord formAt strideSize skipCycles
     factors-left =
-        sym ((λ i. le-leb start costLimit a i && le-leb step costLimit b i && le-leb 1 stride l i && le-leb stride strideLimit h i
+        sym ((λ i. le-leb start costLimit a i && le-leb step costLimit b i && le-leb 1 size l i && le-leb size strideLimit h i
         && enclosed body 8 depth && enclosed body 17 depth && le-leb skip costLimit c i) ∙ and-true (enclosed body 8 depth && enclosed body 17 depth))
         ∙ (λ i. leb (p i) costLimit && leb (q i) costLimit && leb 1 (r i) && leb (r i) strideLimit
         && (ap (λ (d : ℕ). enclosed body 8 d) (sym deep) ∙ sym (decoded-form-in-range (loopDepth os) body 6)) i

@@ -3,6 +3,7 @@ use mathlib.Core.List.{List}
 use mathlib.Core.Bool.{Bool, true, false}
 use mathlib.Core.Option.{Option, none, some}
 use Prim.Native.Nat.{ℕ}
+use lib.IntN.{pos}
 use Rattle.meaning.specs.Record as M
 use Rattle.meaning.specs.Record.{Kind, kindNumber, workKind, loopKind, endKind, choiceKind, nextArmKind, kindOf, bodyLength, decodeRecord}
 use Rattle.meaning.specs.Record.{skipWhere, skipOr, workRecord, loopRecord, endRecord, choiceRecord, nextArmRecord, kind}
@@ -18,7 +19,7 @@ abbrev pub blankWork : Work
 blankWork = record { least = 0; most = 0 }
 
 abbrev pub blankLoop : Loop
-blankLoop = record { start = 0; step = 0; stride = 0; lower = blankForm; upper = blankForm; skip = 0 }
+blankLoop = record { start = 0; step = 0; stride = pos 0; lower = blankForm; upper = blankForm; skip = 0 }
 
 abbrev pub blankRecord : ℕ → Record
 blankRecord kind = record { kind = kind; work = blankWork; looping = blankLoop }

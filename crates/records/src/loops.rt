@@ -3,6 +3,8 @@ ghost use mathlib.Core.Path.{_≡_};
 ghost use mathlib.Core.List.{List, [], _∷_};
 ghost use mathlib.Core.Bool.{false, _||_};
 ghost use Prim.Native.Nat.{_+_, _<_, _^_};
+ghost use lib.IntN.{pos, natAbs};
+ghost use lib.Signed.{ltZ};
 ghost use lib.ListN.{drop};
 ghost use Rattle.meaning.specs.Number.{signed8, unsigned16};
 ghost use Rattle.meaning.specs.Form.{isZero, allZero, formAt};
@@ -16,17 +18,19 @@ use encoding::number::signed16_at;
 use encoding::number::unsigned16_at;
 use form::packed::PackedForm;
 
-// Of kind 2, which has no skip of its own, the field is 0.
+// A negative stride counts down. Of kind 2, which has no skip of its own, the skip's field is 0.
 pub struct Loop {
     pub start: u16,
     pub step: u16,
-    pub stride: u16,
+    pub stride: i16,
     pub lower: PackedForm,
     pub upper: PackedForm,
     pub skip: u16,
 }
 
-// Where the two forms and the skip stand in a body, and the factors of the forms' indexes.
+// Where the stride, the two forms and the skip stand in a body, and the factors of the forms' indexes.
+const STRIDE: usize = 4;
+
 const LOWER: usize = 6;
 
 const UPPER: usize = 15;
@@ -87,6 +91,7 @@ fn skip_or(body: &[u8], skips: bool, other: u16) -> u16
 impl Loop {
     pub const MAX_COST: u16 = 4095;
 
+    // Of a stride's size: it is from -1,000 to 1,000, and not 0.
     pub const MIN_STRIDE: u16 = 1;
 
     pub const MAX_STRIDE: u16 = 1000;
@@ -122,11 +127,28 @@ impl Loop {
         Loop {
             start: unsigned16_at(body, 0),
             step: unsigned16_at(body, 2),
-            stride: unsigned16_at(body, 4),
+            stride: signed16_at(body, STRIDE),
             lower: lower,
             upper: upper,
             skip: skip,
         }
+    }
+
+    // A stride without its sign.
+    pub fn stride_size(stride: i16) -> u16
+        ensures { λ r. ⌜ r ≡ natAbs stride ⌝ }
+    {
+        if stride < 0 {
+            return (-(stride as i32)) as u16;
+        }
+        stride as u16
+    }
+
+    // Whether a loop with this stride counts down.
+    pub fn counts_down(stride: i16) -> bool
+        ensures { λ r. ⌜ r ≡ ltZ stride (pos 0) ⌝ }
+    {
+        stride < 0
     }
 
     // What the loop costs where it makes no trip: its skip, or its start where it has none.
@@ -149,8 +171,8 @@ impl Loop {
         if Loop::MAX_COST < skip {
             return false;
         }
-        let stride = unsigned16_at(body, 4);
-        if stride < Loop::MIN_STRIDE || Loop::MAX_STRIDE < stride {
+        let size = Loop::stride_size(signed16_at(body, STRIDE));
+        if size < Loop::MIN_STRIDE || Loop::MAX_STRIDE < size {
             return false;
         }
         factors_enclosed(body, LOWER_FACTORS, depth) && factors_enclosed(body, UPPER_FACTORS, depth)

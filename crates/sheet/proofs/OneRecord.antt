@@ -12,7 +12,7 @@ use lib.Dec.{leb}
 use Rattle.meaning.specs.Limits.{costLimit, strideLimit}
 use Rattle.meaning.specs.Form.{formInRange}
 use Rattle.meaning.specs.Record.{Kind, workKind, loopKind, endKind, choiceKind, nextArmKind, kindOf, bodyLength, recordLength, kind, decodeRecord}
-use Rattle.meaning.specs.Record.{skipCycles, Record, workRecord, loopRecord, endRecord, choiceRecord, nextArmRecord, Open, openLoop, loopDepth, fieldsInRange, openAfter}
+use Rattle.meaning.specs.Record.{strideSize, skipCycles, Record, workRecord, loopRecord, endRecord, choiceRecord, nextArmRecord, Open, openLoop, loopDepth, fieldsInRange, openAfter}
 use Rattle.meaning.specs.Reader.{readRecordOf, Result, ok, refused, require, orRefuse, andThen, Accepted, accept, readRecord, Head, headOf, headAt}
 use Rattle.meaning.proofs.Logic.{refused-is-not-ok, true-is-not-false}
 use Rattle.meaning.proofs.Accepted.{kind-decodeRecord}
@@ -92,7 +92,7 @@ range-by-depth : (os us : List Open) → loopDepth os ≡ loopDepth us → (r : 
 unfolding fieldsInRange
 range-by-depth os us e (workRecord least most) = refl
 range-by-depth os us e (loopRecord l) =
-    λ i. leb (l .start) costLimit && leb (l .step) costLimit && leb 1 (l .stride) && leb (l .stride) strideLimit
+    λ i. leb (l .start) costLimit && leb (l .step) costLimit && leb 1 (strideSize l) && leb (strideSize l) strideLimit
     && formInRange (e i) (l .lower) && formInRange (e i) (l .upper) && leb (skipCycles l) costLimit
 range-by-depth os us e endRecord = refl
 range-by-depth os us e choiceRecord = refl

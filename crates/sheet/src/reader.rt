@@ -5,7 +5,7 @@ ghost use Prim.Native.Nat.{ℕ, _+_, _≤_, _<_};
 ghost use lib.ListN.{length, getD, drop};
 ghost use Rattle.meaning.specs.Record.{Open};
 ghost use Rattle.meaning.specs.Reader.{ok, readRecord, read};
-ghost use Rattle.meaning.specs.FirstReader.{ReadAsBefore};
+ghost use Rattle.meaning.specs.EarlierReaders.{ReadAsBefore};
 ghost use Rattle.meaning.specs.Writer.{store, write};
 ghost use Rattle.records.specs.View.{rawRecordOf};
 ghost use Rattle.sheet.specs.Nestings.{nestingOf};

@@ -21,7 +21,7 @@ use Rattle.meaning.specs.Stage.{Frame, choiceFrame, indexesOf, loopFrame, range
 use Rattle.meaning.specs.Limits.{indexFactors}
 use Rattle.meaning.specs.Range.{indexRange, innerRanges}
 use Rattle.meaning.specs.Closed.{push, pushInner, pushOwn}
-use Rattle.meaning.specs.Time.{signedStride, tripCount}
+use Rattle.meaning.specs.Time.{tripCount}
 use Rattle.meaning.proofs.Pushes.{Follows, follows-fixed, follows-inside, indexesInside, indexesInside-trip, insideAt, moveBy, value-follows}
 use Rattle.layout.specs.Loops.{wordOf}
 use Rattle.loops.specs.Enclosing.{enter, nothingOpen, Enclosing}
@@ -123,7 +123,7 @@ module _ (ps : List ℤ) where
   starts-at (loopFrame l body counter visitedSums enclosing ∷ fs) =
       ap (λ (xs : List ℤ). xs ++ (value ps (l .lower) xs ∷ [])) (starts-at fs)
       ∙ ap (λ (x : ℤ). framesAt fs [] ++ (x ∷ []))
-      (sym (+ℤ-idr (value ps (l .lower) (framesAt fs []))) ∙ ap (λ (x : ℤ). value ps (l .lower) (framesAt fs []) +ℤ x) (sym (zero-*ℤ (signedStride l))))
+      (sym (+ℤ-idr (value ps (l .lower) (framesAt fs []))) ∙ ap (λ (x : ℤ). value ps (l .lower) (framesAt fs []) +ℤ x) (sym (zero-*ℤ (l .stride))))
   starts-at (choiceFrame passedArms enclosing ∷ fs) = starts-at fs
 
   indexes-at : (fs : List Frame) → indexesOf ps fs ≡ framesAt fs (innerCounters fs)

@@ -12,11 +12,11 @@ use lib.Dec.{ltb}
 use Rattle.whole.specs.Integer.{dot, floorRemainder}
 use Rattle.whole.proofs.Residue.{congruent-mod, congruent-unique}
 use Rattle.meaning.specs.Stage.{Frame, choiceFrame, indexesOf, loopFrame, rangesOf}
-use Rattle.meaning.specs.Record.{Loop, Open, loopDepth, loopRecord, Record}
+use Rattle.meaning.specs.Record.{Loop, strideSize, Open, loopDepth, loopRecord, Record}
 use Rattle.meaning.specs.Closed.{LoopClass, closedClass, loopClass, push, pushInner, pushOwn, walkedClass}
 use Rattle.meaning.specs.Range.{Range, ceiling}
 use Rattle.meaning.specs.Limits.{ceilingLimit, depthLimit, figureLimit, indexFactors, openLimit, recordLimit}
-use Rattle.meaning.specs.Time.{difference, strideSize, time, trips}
+use Rattle.meaning.specs.Time.{difference, time, trips}
 use Rattle.meaning.specs.Report.{firstOverCeiling}
 use Rattle.meaning.specs.Tree.{height, tree}
 use Rattle.meaning.specs.Answer.{sheetReports}

@@ -7,9 +7,9 @@ use native.Mathlib.Omega.{arith}
 use native.Mathlib.Nat.{mod-eq-of-lt}
 use lib.ListN.{length, length-append}
 use lib.IntN.{ℤ}
-use Rattle.meaning.specs.Time.{Bounds, strideSize, time}
+use Rattle.meaning.specs.Time.{Bounds, time}
 use Rattle.meaning.specs.Stage.{Frame, Step, afterEnd, choiceFrame, loopFrame, state, State}
-use Rattle.meaning.specs.Record.{Loop, Record, choiceRecord, endRecord, loopRecord, Open}
+use Rattle.meaning.specs.Record.{Loop, strideSize, Record, choiceRecord, endRecord, loopRecord, Open}
 use Rattle.meaning.specs.Limits.{depthLimit, openLimit, recordLimit}
 use Rattle.meaning.specs.Tree.{height, records, tree}
 use Rattle.meaning.specs.Stage as Meaning

@@ -110,7 +110,7 @@ pub(crate) fn record_in(entry: &[u8]) -> Record {
         looping: Loop {
             start: unsigned16_at(entry, 5),
             step: unsigned16_at(entry, 7),
-            stride: unsigned16_at(entry, 9),
+            stride: signed16_at(entry, 9),
             lower: lower,
             upper: upper,
             skip: unsigned16_at(entry, 29),

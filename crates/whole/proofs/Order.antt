@@ -4,12 +4,12 @@ use mathlib.Core.Bool.{Bool, true, false, not, cond}
 use Prim.Native.Nat.{ℕ, zero, suc, _+_, _*_, _-_, _^_, _≤_, _<_}
 use native.Mathlib.Nat.{mul-le-mul}
 use native.Mathlib.Omega.{arith}
-use lib.IntN.{ℤ, pos, negsuc, negℤ, natAbs, sucℤ, subℕ, _+ℤ_, _-ℤ_, _*ℤ_, sucℤ-+ℤ, +ℤ-assoc, +ℤ-idr, -ℤ-+ℤ-cancel}
+use lib.IntN.{ℤ, pos, negsuc, negℤ, natAbs, sucℤ, subℕ, _+ℤ_, _-ℤ_, _*ℤ_, sucℤ-+ℤ, +ℤ-assoc, +ℤ-comm, +ℤ-idr, -ℤ-+ℤ-cancel}
 use lib.Signed.{_≤ℤ_, leZ, mag}
-use lib.Dec.{T, ltb, leb→le, le→leb, ltb→lt, lt→ltb, nleb→lt}
+use lib.Dec.{T, ltb, leb→le, le→leb, ltb→lt, lt→ltb, nleb→lt, leb·zero, leb·suc-zero, leb·suc-suc}
 use mir.Syntax.{w64}
 use mir.Val.{SFits}
-use Rattle.whole.specs.Integer.{larger, atLeastZero}
+use Rattle.whole.specs.Integer.{larger, smaller, atLeastZero}
 use Rattle.whole.proofs.Ring.{*ℤ-+ℤ, medial, move-left, move-right}
 
 -- b is a plus a natural
@@ -117,7 +117,14 @@ AtMost-subtract a b c h = record { gap = h .gap; equation = move-left c a (b +�
 pub AtMost-restore : (a b c : ℤ) → AtMost b (c -ℤ a) → AtMost (a +ℤ b) c
 AtMost-restore a b c h = record { gap = h .gap; equation = move-right c a (b +ℤ pos (h .gap)) (h .equation) ∙ sym (+ℤ-assoc a b (pos (h .gap))) }
 
--- ---- the larger of two
+-- and two terms exchanged
+pub AtMost-exchange : (a b c : ℤ) → AtMost b (c -ℤ a) → AtMost a (c -ℤ b)
+AtMost-exchange a b c h = AtMost-subtract b a c (subst (λ (x : ℤ). AtMost x c) (+ℤ-comm a b) (AtMost-restore a b c h))
+
+pub AtMost-less : (a : ℤ) (n : ℕ) → AtMost (a -ℤ pos n) a
+AtMost-less a n = record { gap = n; equation = sym (-ℤ-+ℤ-cancel a (pos n)) }
+
+-- ---- the larger and the smaller of two
 
 pub larger-left : (a b : ℤ) → AtMost a (larger a b)
 larger-left a b = by-test (leZ a b) refl
@@ -132,6 +139,39 @@ larger-right a b = by-test (leZ a b) refl
     by-test : (c : Bool) → leZ a b ≡ c → AtMost b (cond c b a)
     by-test true e = AtMost-refl b
     by-test false e = not-leZ→AtMost a b (subst (λ (c : Bool). T (not c)) (sym e) tt)
+
+pub smaller-left : (a b : ℤ) → AtMost (smaller a b) a
+smaller-left a b = by-test (leZ a b) refl
+  where
+    by-test : (c : Bool) → leZ a b ≡ c → AtMost (cond c a b) a
+    by-test true e = AtMost-refl a
+    by-test false e = not-leZ→AtMost a b (subst (λ (c : Bool). T (not c)) (sym e) tt)
+
+pub smaller-right : (a b : ℤ) → AtMost (smaller a b) b
+smaller-right a b = by-test (leZ a b) refl
+  where
+    by-test : (c : Bool) → leZ a b ≡ c → AtMost (cond c a b) b
+    by-test true e = leZ→AtMost a b (subst T (sym e) tt)
+    by-test false e = AtMost-refl b
+
+-- negation turns the order
+leZ-neg : (a b : ℤ) → leZ (negℤ a) (negℤ b) ≡ leZ b a
+leZ-neg (pos zero) (pos zero) = refl
+leZ-neg (pos zero) (pos (suc b)) = sym (leb·suc-zero b)
+leZ-neg (pos zero) (negsuc b) = leb·zero (suc b)
+leZ-neg (pos (suc a)) (pos zero) = sym (leb·zero (suc a))
+leZ-neg (pos (suc a)) (pos (suc b)) = sym (leb·suc-suc b a)
+leZ-neg (pos (suc a)) (negsuc b) = refl
+leZ-neg (negsuc a) (pos zero) = leb·suc-zero a
+leZ-neg (negsuc a) (pos (suc b)) = refl
+leZ-neg (negsuc a) (negsuc b) = leb·suc-suc a b
+
+pub larger-neg : (a b : ℤ) → larger (negℤ a) (negℤ b) ≡ negℤ (smaller b a)
+larger-neg a b = ap (λ (c : Bool). cond c (negℤ b) (negℤ a)) (leZ-neg a b) ∙ by-test (leZ b a)
+  where
+    by-test : (c : Bool) → cond c (negℤ b) (negℤ a) ≡ negℤ (cond c b a)
+    by-test true = refl
+    by-test false = refl
 
 -- ---- sizes
 

@@ -57,6 +57,10 @@ negℤ-*ℤ a b = neg-unique (a *ℤ b) (negℤ a *ℤ b) (sym (+ℤ-*ℤ a (neg
 pub *ℤ-negℤ : (a b : ℤ) → a *ℤ negℤ b ≡ negℤ (a *ℤ b)
 *ℤ-negℤ a b = *ℤ-comm a (negℤ b) ∙ negℤ-*ℤ b a ∙ ap negℤ (*ℤ-comm b a)
 
+-- two signs cancel
+pub negℤ-*ℤ-negℤ : (a b : ℤ) → negℤ a *ℤ negℤ b ≡ a *ℤ b
+negℤ-*ℤ-negℤ a b = negℤ-*ℤ a (negℤ b) ∙ ap negℤ (*ℤ-negℤ a b) ∙ negℤ-negℤ (a *ℤ b)
+
 pub *ℤ-assoc : (a b c : ℤ) → (a *ℤ b) *ℤ c ≡ a *ℤ (b *ℤ c)
 *ℤ-assoc a b c = ℤ-induction (λ a. (a *ℤ b) *ℤ c ≡ a *ℤ (b *ℤ c))
     (simp zero-*ℤ)
@@ -158,6 +162,10 @@ medial a b c d = simp sort-sums
 -- the difference of two sums, term by term
 pub sub-medial : (a b c d : ℤ) → (a +ℤ b) -ℤ (c +ℤ d) ≡ (a -ℤ c) +ℤ (b -ℤ d)
 sub-medial a b c d = simp negℤ-+ℤ (simp sort-sums)
+
+-- a difference of negations, the other way round
+pub neg-sub-neg : (a b : ℤ) → negℤ a -ℤ negℤ b ≡ b -ℤ a
+neg-sub-neg a b = ap (λ (z : ℤ). negℤ a +ℤ z) (negℤ-negℤ b) ∙ +ℤ-comm (negℤ a) b
 
 pub right-comm : (a b c : ℤ) → (a +ℤ b) +ℤ c ≡ (a +ℤ c) +ℤ b
 right-comm a b c = simp sort-sums

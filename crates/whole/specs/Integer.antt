@@ -1,4 +1,4 @@
--- Integers: division that rounds down, the larger of two, divisibility, and sums of products.
+-- Integers: division that rounds down, the larger and the smaller of two, divisibility, and sums of products.
 use mathlib.Core.List.{List, [], _∷_}
 use mathlib.Core.Bool.{Bool, cond}
 use Prim.Native.Nat.{ℕ, zero, suc, _-_, _/_, _%_}
@@ -24,6 +24,10 @@ floorRemainder (negsuc n) s = s - suc (n % s)
 -- the larger of two integers
 abbrev pub larger : ℤ → ℤ → ℤ
 larger a b = cond (leZ a b) b a
+
+-- the smaller of two integers
+abbrev pub smaller : ℤ → ℤ → ℤ
+smaller a b = cond (leZ a b) a b
 
 -- whether s divides z
 abbrev pub divides : ℕ → ℤ → Bool

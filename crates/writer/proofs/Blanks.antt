@@ -70,6 +70,9 @@ pattern-blank half (pos zero) t = refl
 pattern-blank half (pos (suc n)) t = eqb·suc-zero n
 pattern-blank half (negsuc n) t = let l = ltb→lt n half t in ne-eqb (half + half - suc n) 0 λ e. omega arith
 
+signed-blank : (z : ℤ) → T (hasPattern constantHalf z) → allBlank (littleEndian 2 (encodeSigned constantHalf z)) ≡ isZero z
+signed-blank z t = number-blank (encodeSigned constantHalf z) (encode-bound constantHalf z t) ∙ pattern-blank constantHalf z t
+
 factors-blank : (xs : List ℤ) → T (factorsFit xs) → allBlank (map (encodeSigned factorHalf) xs) ≡ allZero xs
 unfolding allBlank allZero factorsFit
 factors-blank [] t = refl
@@ -81,8 +84,7 @@ form-blank : {f : Form} → FormInRange indexFactors f → allBlank (formBytes f
 unfolding formBytes formZero
 form-blank {f} h =
     simp append-blank
-    (λ t. (number-blank (encodeSigned constantHalf (f .constant)) (encode-bound constantHalf (f .constant) (h .constantFits))
-    ∙ pattern-blank constantHalf (f .constant) (h .constantFits)) t
+    (λ t. signed-blank (f .constant) (h .constantFits) t
     && factors-blank (f .index) (h .indexFit) t && factors-blank (f .parameter) (h .parameterFit) t)
 
 pub loop-blank : (item : Record) → LoopFits (item .looping) → allBlank (bodyBytes (loopRecord (loopOf true (item .looping)))) ≡ loopFieldsZero (rawRecordOf item)
@@ -90,5 +92,5 @@ unfolding bodyBytes skipBytes skipWhere loopFieldsZero skipZero
 loop-blank item h =
     let l = item .looping in
     simp append-blank
-    (λ t. number-blank (l .start) (h .startFits) t && number-blank (l .step) (h .stepFits) t && number-blank (l .stride) (h .strideFits) t
+    (λ t. number-blank (l .start) (h .startFits) t && number-blank (l .step) (h .stepFits) t && signed-blank (l .stride) (h .strideFits) t
     && form-blank (h .lowerFits) t && form-blank (h .upperFits) t && number-blank (l .skip) (h .skipFits) t)

@@ -1,4 +1,4 @@
--- Bodies in bytes: what the code makes of a form, and of a skip.
+-- Bodies in bytes: what the code makes of a form, of a stride and of a skip.
 use mathlib.Core.Path.{_≡_, ap, _∙_}
 use mathlib.Core.List.{List, [], _∷_, _++_, map, append-nil}
 use mathlib.Core.Bool.{true, false}
@@ -20,6 +20,7 @@ use Rattle.encoding.proofs.Patterns.{Widths, bits8, bits16, handed}
 use Rattle.form.proofs.FormLists.{at, indexes-are, four-are}
 use Rattle.records.specs.declared.loops.Loop.{Loop}
 use Rattle.records.specs.View.{loopOf}
+use Rattle.writer.proofs.Fits.{LoopFits}
 
 -- the pattern of a number that has one, as the code is told of it
 exact : {half : ℕ} {w v : Width} → Widths half w v → (z : ℤ) → T (hasPattern half z)
@@ -51,6 +52,10 @@ module _ {f : Form} (h : FormInRange indexFactors f) where
       ∙ (λ t. littleEndian 2 (encodeSigned constantHalf (f .constant))
       ++ map (encodeSigned factorHalf) (indexes-are (f .index) (h .indexCount) t)
       ++ map (encodeSigned factorHalf) (four-are (f .parameter) (h .parameterCount) t))
+
+-- the pattern of a stride
+pub stride-encoded : (l : Loop) → LoopFits l → {r : ℕ} → r ≡ encodeSigned constantHalf (toZ w16 (ofZ w16 (l .stride))) → r ≡ encodeSigned constantHalf (l .stride)
+stride-encoded l h e = exact bits16 (l .stride) (h .strideFits) e
 
 -- a skip stands after what a loop without one has
 pub skip-after : (l : Loop) → bodyBytes (loopRecord (loopOf false l)) ++ littleEndian 2 (l .skip) ≡ bodyBytes (loopRecord (loopOf true l))

@@ -30,7 +30,7 @@ use Rattle.records.proofs.Record as record-row
 pub record LoopFits (l : Loop) : Type 0 where
   pub startFits : l .start < 2 ^ 16
   pub stepFits : l .step < 2 ^ 16
-  pub strideFits : l .stride < 2 ^ 16
+  pub strideFits : T (hasPattern constantHalf (l .stride))
   pub lowerFits : FormInRange indexFactors (formOf (l .lower))
   pub upperFits : FormInRange indexFactors (formOf (l .upper))
   pub skipFits : l .skip < 2 ^ 16
@@ -64,12 +64,13 @@ form-fits f vs h =
     }
 
 pub loop-fits : (l : Loop) (vs : List Val) → Is loop-row.the-row l vs → LoopFits l
+unfolding hasPattern
 loop-fits l vs h =
     let fields = h .1 .1 in
     record {
       startFits = fields .0 .1;
       stepFits = fields .1 .0 .1;
-      strideFits = fields .1 .1 .0 .1;
+      strideFits = lt→ltb (mag (l .stride)) constantHalf (fields .1 .1 .0 .1);
       lowerFits = form-fits (l .lower) _ (fields .1 .1 .1 .0);
       upperFits = form-fits (l .upper) _ (fields .1 .1 .1 .1 .0);
       skipFits = fields .1 .1 .1 .1 .1 .0 .1;

@@ -55,7 +55,7 @@ no-loop item h t =
     let l = item .looping in
     let a : Bool = eqb (l .start) 0 in
     let b : Bool = eqb (l .step) 0 in
-    let c : Bool = eqb (l .stride) 0 in
+    let c : Bool = isZero (l .stride) in
     let f : Bool = formZero (formOf (l .lower)) in
     let g : Bool = formZero (formOf (l .upper)) in
     let t5 = T-and (a && b && c && f && g) (skipZero (rawRecordOf item)) t in
@@ -66,7 +66,7 @@ no-loop item h t =
     λ i. record {
       start = eqb→eq (l .start) 0 (t1 .0) i;
       step = eqb→eq (l .step) 0 (t1 .1) i;
-      stride = eqb→eq (l .stride) 0 (t2 .1) i;
+      stride = zero-is (l .stride) (t2 .1) i;
       lower = no-form (h .lowerFits) (t3 .1) i;
       upper = no-form (h .upperFits) (t4 .1) i;
       skip = no-skip item (t5 .1) i;

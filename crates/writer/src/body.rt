@@ -56,9 +56,10 @@ fn put_plain_loop(buffer: &mut [u8], at: usize, fields: Loop) -> usize
     requires { ⌜ at + bodyLimit ≤ length (now buffer) ⌝ }
     ensures { λ r. ⌜ Appended (now (buffer .entry)) at (bodyBytes (loopRecord (loopOf false fields))) (now (buffer .exit)) r ⌝ }
 {
+    let stride = pattern16(fields.stride);
     let at = put_unsigned16(buffer, at, fields.start);
     let at = put_unsigned16(buffer, at, fields.step);
-    let at = put_unsigned16(buffer, at, fields.stride);
+    let at = put_unsigned16(buffer, at, stride);
     let lower = fields.lower;
     let upper = fields.upper;
     let first = form_bytes(lower);

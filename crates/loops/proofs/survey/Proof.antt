@@ -74,7 +74,7 @@ module _ (c : tie.After-forms-at Inv-loop μ-loop) where
   abbrev start : tie.Start Inv-loop μ-loop
   start = turn .before .before .before .before
 
-  stride-there : 0 < c .forms-at .result .stride
+  stride-there : 0 < c .forms-at .result .size
   stride-there =
       stride-range (turn .before .loop .inv) (turn .loop-test .taken) (start .pre .1 .0) (start .pre .1 .1)
       (role .role-at .ensures) (c .before .if1 .left) (offset .offset-at .ensures) (c .forms-at .ensures)

@@ -1,9 +1,9 @@
 -- The entry at `depth` is set to the smallest and the largest index and the start that the forms give; the other entries stay.
-use mathlib.Core.Path.{_∙_, ap, ap₂}
+use mathlib.Core.Path.{_∙_, ap}
+use mathlib.Core.Bool.{cond}
 use lib.ListN.{set}
 use mir.Facts.{toZ-ofZ}
-use Rattle.whole.specs.Integer as Z
-use Rattle.meaning.specs.Range.{Range}
+use Rattle.meaning.specs.Range.{Range, rangeUp, rangeDown}
 use Rattle.loops.specs.Reckoned.{aroundWith}
 use borrow.Author.Needs.{needs}
 use Rattle.loops.proofs.forms.around_with.Statement.{statement}
@@ -15,8 +15,8 @@ range-requires c κs = search needs
 range-requires-2 : tie.Need-range-requires-2
 range-requires-2 c κs = search needs
 
-larger-requires : tie.Need-larger-requires
-larger-requires c κs = search needs
+index-range-requires : tie.Need-index-range-requires
+index-range-requires c κs = search needs
 
 at-requires : tie.Need-at-requires
 at-requires c κs = search needs
@@ -42,12 +42,13 @@ array-set-from-starts c = search needs
 returns : tie.Need-returns
 unfolding aroundWith
 returns c =
-    let given = c .before .before .before .before .before .before .before .before .before .before .before .args in
-    let low = c .before .before .before .before .before .range .ensures in
-    let high = c .before .before .before .before .range2 .ensures in
-    let least = toZ-ofZ (record { sfits = c .before .before .before .struct-told .given .0 .1 }) ∙ ap (λ (r : Range). r .lo) low in
-    let up = toZ-ofZ (record { sfits = c .before .before .struct-told2 .given .1 .0 .1 }) ∙ ap (λ (r : Range). r .hi) high in
-    let most = toZ-ofZ (record { sfits = c .before .larger .ok }) ∙ c .before .larger .ensures ∙ ap₂ Z.larger least up in
+    let lies = c .before .before .before in
+    let given = lies .before .before .before .before .before .before .before .before .args in
+    let index =
+    lies .index-range .ensures
+    ∙ (λ i. cond (given .forms .down) rangeDown rangeUp (lies .before .before .range .ensures i) (lies .before .range2 .ensures i)) in
+    let least = toZ-ofZ (record { sfits = c .before .before .struct-told .given .0 .1 }) ∙ ap (λ (r : Range). r .lo) index in
+    let most = toZ-ofZ (record { sfits = c .before .struct-told2 .given .1 .0 .1 }) ∙ ap (λ (r : Range). r .hi) index in
     let start = toZ-ofZ (record { sfits = c .at .ok }) ∙ c .at .ensures in
     λ i. record {
       lo = set (given .around .lo) (given .depth) (least i);
@@ -61,7 +62,7 @@ around-with-spec =
     (tie.spec
     range-requires
     range-requires-2
-    larger-requires
+    index-range-requires
     at-requires
     mul-lo
     array-set-from-lo

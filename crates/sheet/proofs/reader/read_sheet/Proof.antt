@@ -1,6 +1,6 @@
 -- The check gives the answer and the count, by which the records are decoded; writing them gives the bytes of the sheet back.
 use mathlib.Core.Path.{ap, _∙_}
-use Rattle.meaning.proofs.FirstReaders.{read-as-before}
+use Rattle.meaning.proofs.EarlierReaders.{read-as-before}
 use Rattle.sheet.specs.Answers.{orZero}
 use Rattle.sheet.proofs.WrittenBack.{bytes-all, written-back}
 use borrow.Author.Needs.{needs}

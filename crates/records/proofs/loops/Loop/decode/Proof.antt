@@ -3,6 +3,7 @@ use mathlib.Core.Path.{_≡_, refl, _∙_, ap}
 use mathlib.Core.Bool.{Bool, true, false}
 use Prim.Native.Nat.{ℕ}
 use Rattle.meaning.specs.Number.{unsigned16}
+use Rattle.encoding.proofs.Patterns.{kept}
 use Rattle.meaning.specs.Record.{skipWhere, skipOr, loopRecord, decodeRecord}
 use borrow.Author.Needs.{needs}
 use Rattle.records.proofs.loops.Loop.decode.Statement.{statement}
@@ -23,8 +24,8 @@ unsigned16-at-requires c κs = search needs
 unsigned16-at-requires-2 : tie.Need-unsigned16-at-requires-2
 unsigned16-at-requires-2 c κs = search needs
 
-unsigned16-at-requires-3 : tie.Need-unsigned16-at-requires-3
-unsigned16-at-requires-3 c κs = search needs
+signed16-at-requires : tie.Need-signed16-at-requires
+signed16-at-requires c κs = search needs
 
 -- the field is the skip where the body has one
 skip-kept : (skips : Bool) (n : ℕ) → skipWhere skips (skipOr (skipWhere skips n) 0) ≡ skipWhere skips n
@@ -42,12 +43,13 @@ unfolding decodeRecord
 returns c =
     let skip = c .before .before .before in
     let forms = skip .before in
+    let stride = kept (record { sfits = c .signed16-at .ok }) (c .signed16-at .ensures) in
     let a = forms .before .before .before .args in (
       λ i.
           loopRecord (record {
             start = c .before .before .unsigned16-at .ensures i;
             step = c .before .unsigned16-at2 .ensures i;
-            stride = c .unsigned16-at3 .ensures i;
+            stride = stride i;
             lower = forms .before .form-at .ensures i;
             upper = forms .form-at2 .ensures i;
             skip = (ap (skipWhere (a .skips)) (skip .skip-or .ensures) ∙ skip-kept (a .skips) (unsigned16 (a .body .now) 24)) i;
@@ -64,5 +66,5 @@ decode-spec =
     skip-or-requires
     unsigned16-at-requires
     unsigned16-at-requires-2
-    unsigned16-at-requires-3
+    signed16-at-requires
     returns)

@@ -1,7 +1,10 @@
 -- The tests of the costs, of the stride and of both forms' factors are together those of the definition.
+use mathlib.Core.Path.{ap, _∙_}
 use mathlib.Core.Logic.{inl, inr, ⊎-elim}
 use native.Mathlib.Omega.{arith}
+use lib.IntN.{natAbs}
 use borrow.Author.Tests.{ltb-true, ltb-false}
+use Rattle.encoding.proofs.Patterns.{kept}
 use Rattle.records.proofs.Ranges.{cost-over, skip-over, stride-off, lower-bad, upper-decides}
 use borrow.Author.Needs.{needs}
 use Rattle.records.proofs.loops.Loop.in_range.Statement.{statement}
@@ -30,13 +33,17 @@ returns-2 c os d =
     let a = skip .before .before .before .before .before .before .args in
     skip-over os d (a .body .now) (a .skips) (skip .skip-cycles .ensures) (c .if3 .taken)
 
-unsigned16-at-requires-3 : tie.Need-unsigned16-at-requires-3
-unsigned16-at-requires-3 c κs = search needs
+signed16-at-requires : tie.Need-signed16-at-requires
+signed16-at-requires c κs = search needs
+
+stride-size-requires : tie.Need-stride-size-requires
+stride-size-requires c κs = search needs
 
 returns-3 : tie.Need-returns-3
 returns-3 c os d =
-    let a = c .before .before .before .before .before .before .before .before .before .args in
-    stride-off os d (a .body .now) (a .skips) (c .before .unsigned16-at3 .ensures)
+    let field = c .before .before in
+    let a = field .before .before .before .before .before .before .before .before .args in
+    stride-off os d (a .body .now) (a .skips) (c .before .stride-size .ensures ∙ ap natAbs (kept (record { sfits = field .signed16-at .ok }) (field .signed16-at .ensures)))
     (⊎-elim (λ w. inl (omega arith)) (λ w. inr (omega (arith, ltb-true))) (c .if4 .came))
 
 factors-enclosed-requires : tie.Need-factors-enclosed-requires
@@ -49,26 +56,28 @@ returns-4 : tie.Need-returns-4
 returns-4 c os d =
     let lower = c .before .before in
     let stride = lower .before .before .before in
-    let skip = stride .before .before in
+    let field = stride .before in
+    let skip = field .before .before in
     let step = skip .before .before .before in
     let start = step .before in
     let a = start .before .before .args in
     upper-decides os d (a .body .now) (a .skips) (start .unsigned16-at .ensures) (step .unsigned16-at2 .ensures) (skip .skip-cycles .ensures)
-    (stride .unsigned16-at3 .ensures)
-    (omega arith) (omega (arith, ltb-false)) (stride .before .if3 .left) (omega arith) (omega (arith, ltb-false))
+    (stride .stride-size .ensures ∙ ap natAbs (kept (record { sfits = field .signed16-at .ok }) (field .signed16-at .ensures)))
+    (omega arith) (omega (arith, ltb-false)) (field .before .if3 .left) (omega arith) (omega (arith, ltb-false))
     (lower .factors-enclosed .ensures) (c .before .if6 .taken) (c .factors-enclosed2 .ensures)
 
 returns-5 : tie.Need-returns-5
 returns-5 c os d =
     let lower = c .before in
     let stride = lower .before .before .before in
-    let skip = stride .before .before in
+    let field = stride .before in
+    let skip = field .before .before in
     let step = skip .before .before .before in
     let start = step .before in
     let a = start .before .before .args in
     lower-bad os d (a .body .now) (a .skips) (start .unsigned16-at .ensures) (step .unsigned16-at2 .ensures) (skip .skip-cycles .ensures)
-    (stride .unsigned16-at3 .ensures)
-    (omega arith) (omega (arith, ltb-false)) (stride .before .if3 .left) (omega arith) (omega (arith, ltb-false))
+    (stride .stride-size .ensures ∙ ap natAbs (kept (record { sfits = field .signed16-at .ok }) (field .signed16-at .ensures)))
+    (omega arith) (omega (arith, ltb-false)) (field .before .if3 .left) (omega arith) (omega (arith, ltb-false))
     (lower .factors-enclosed .ensures) (c .if6 .left)
 
 pub in-range-spec : {M : Type 1} → statement M
@@ -80,7 +89,8 @@ in-range-spec =
     returns
     skip-cycles-requires
     returns-2
-    unsigned16-at-requires-3
+    signed16-at-requires
+    stride-size-requires
     returns-3
     factors-enclosed-requires
     factors-enclosed-requires-2
