@@ -77,6 +77,7 @@ pub fn timed() -> Vec<Timed> {
         },
         one("64 works", work.repeat(64)),
         one("64 records, plan only", [slanted(0), vec![3; 4]].concat().repeat(8)),
+        one("128 records, plan only", [slanted(0), vec![3; 4]].concat().repeat(16)),
         Timed {
             few_trips: false,
             ..one("64 records, four deep, 2^44 trips", [slanted(2048), work.repeat(56), vec![3; 4]].concat())

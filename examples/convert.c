@@ -28,11 +28,16 @@ static const uint8_t other_skip[] = {
     SKIP_LOOP(7, 0, 2), INDEX_I(0), PARAMETER_1, SKIP(2), END, END};
 static const uint8_t kind_7[] = {SKIP_LOOP(4, 1, 1), CONSTANT(0), CONSTANT(9), SKIP(2), END, 7};
 static const uint8_t too_large_skip[] = {SKIP_LOOP(4, 1, 1), CONSTANT(0), CONSTANT(9), SKIP(4096), END};
-static const uint8_t records_65[] = {TWICE(TWICE(TWICE(TWICE(TWICE(CHOICE, END))))), CHOICE};
-/* 32 loops, the most that a sheet can have, in a new sheet of 896 bytes. */
-static const uint8_t most_loops[] = {TWICE(TWICE(TWICE(TWICE(TWICE(LOOP(4, 1, 1), CONSTANT(0), CONSTANT(9), END)))))};
-static const uint8_t most_skips[] = {
-    TWICE(TWICE(TWICE(TWICE(TWICE(SKIP_LOOP(4, 1, 1), CONSTANT(0), CONSTANT(9), SKIP(4), END)))))};
+/* A loop of either kind around nothing. */
+#define EMPTY_LOOP LOOP(4, 1, 1), CONSTANT(0), CONSTANT(9), END
+#define EMPTY_SKIP_LOOP SKIP_LOOP(4, 1, 1), CONSTANT(0), CONSTANT(9), SKIP(4), END
+/* A work and 32 loops, each with its end: 65 records. */
+static const uint8_t records_65[] = {WORK(3, 5), TWICE(TWICE(EIGHT_TIMES(EMPTY_LOOP)))};
+static const uint8_t skips_65[] = {WORK(3, 5), TWICE(TWICE(EIGHT_TIMES(EMPTY_SKIP_LOOP)))};
+/* 64 loops, the most that a sheet can have, in a new sheet of 1,792 bytes. */
+static const uint8_t most_loops[] = {EIGHT_TIMES(EIGHT_TIMES(EMPTY_LOOP))};
+static const uint8_t most_skips[] = {EIGHT_TIMES(EIGHT_TIMES(EMPTY_SKIP_LOOP))};
+static const uint8_t records_129[] = {EIGHT_TIMES(EIGHT_TIMES(CHOICE, END)), CHOICE};
 
 typedef uint32_t converter(const uint8_t *, size_t, uint8_t *, size_t, uint8_t *, size_t);
 
@@ -65,6 +70,8 @@ static const struct call calls[] = {
     {"kind 2 to 2", TO_2, WHOLE(kind_2), ROOM, AREA, 0, WHOLE(kind_2)},
     {"counting down, to 6", TO_6, WHOLE(down_2), ROOM, AREA, 0, WHOLE(down_6)},
     {"counting down, to 2", TO_2, WHOLE(down_6), ROOM, AREA, 0, WHOLE(down_2)},
+    {"65 records to 6", TO_6, WHOLE(records_65), sizeof skips_65, AREA, 0, WHOLE(skips_65)},
+    {"65 records to 2", TO_2, WHOLE(skips_65), ROOM, AREA, 0, WHOLE(records_65)},
     {"most loops to 6", TO_6, WHOLE(most_loops), sizeof most_skips, AREA, 0, WHOLE(most_skips)},
     {"most loops to 2", TO_2, WHOLE(most_skips), sizeof most_loops, AREA, 0, WHOLE(most_loops)},
     {"empty sheet to 6, no room", TO_6, kind_2, 0, 0, AREA, 0, kind_2, 0},
@@ -74,7 +81,7 @@ static const struct call calls[] = {
     {"kind 7", TO_6, WHOLE(kind_7), ROOM, AREA, PUMDALIN_NO_SUCH_KIND, NOTHING},
     {"kind 7 before another skip's 10", TO_2, WHOLE(kind_7), ROOM, AREA, PUMDALIN_NO_SUCH_KIND, NOTHING},
     {"a skip of 4,096", TO_6, WHOLE(too_large_skip), ROOM, AREA, PUMDALIN_FIELD, NOTHING},
-    {"65 records, neither room nor area", TO_6, WHOLE(records_65), 0, 0, PUMDALIN_TOO_MANY_RECORDS, NOTHING},
+    {"129 records, neither room nor area", TO_6, WHOLE(records_129), 0, 0, PUMDALIN_TOO_MANY_RECORDS, NOTHING},
     {"a loop left open, neither room nor area", TO_2, kind_2, sizeof kind_2 - 1, 0, 0, PUMDALIN_NESTING, NOTHING},
     {"another skip to 2", TO_2, WHOLE(other_skip), ROOM, AREA, PUMDALIN_SKIP, NOTHING},
     {"another skip to 2, neither room nor area", TO_2, WHOLE(other_skip), 0, 0, PUMDALIN_SKIP, NOTHING},

@@ -40,6 +40,13 @@ fn down() -> [Vec<u8>; 2] {
     [kind_2, kind_6].map(|outer| nest(&[outer], work(3, 5)))
 }
 
+/// So many loops around nothing, each with its end, of kind 2 and of kind 6.
+fn empty_loops(count: usize) -> [Vec<u8>; 2] {
+    let kind_2 = a_loop(OUTER, 1, constant(0), constant(9));
+    let kind_6 = skip_loop(OUTER, 1, constant(0), constant(9), OUTER[0]);
+    [kind_2, kind_6].map(|outer| nest(&[outer], vec![]).repeat(count))
+}
+
 struct Call {
     tells: &'static str,
     sheet: Vec<u8>,
@@ -58,6 +65,9 @@ fn calls() -> Vec<Call> {
     let left_open = plain[..plain.len() - 1].to_vec();
     let cut_off = skips[..26].to_vec();
     let [down_2, down_6] = down();
+    let [most_loops, most_skips] = empty_loops(64);
+    let [records_65, skips_65] = empty_loops(32).map(|loops| [work(3, 5), loops].concat());
+    let records_129 = [most_loops.clone(), work(3, 5)].concat();
     vec![
         call("kind 2 to 6", plain.clone(), WithSkips, Ok(skips.clone())),
         call("both kinds to 6", both_kinds(), WithSkips, Ok(skips.clone())),
@@ -66,11 +76,16 @@ fn calls() -> Vec<Call> {
         call("both kinds to 2", both_kinds(), WithoutSkips, Ok(plain.clone())),
         call("counting down, to 6", down_2.clone(), WithSkips, Ok(down_6.clone())),
         call("counting down, to 2", down_6, WithoutSkips, Ok(down_2)),
+        call("65 records to 6", records_65.clone(), WithSkips, Ok(skips_65.clone())),
+        call("65 records to 2", skips_65, WithoutSkips, Ok(records_65)),
+        call("128 records to 6", most_loops.clone(), WithSkips, Ok(most_skips.clone())),
+        call("128 records to 2", most_skips, WithoutSkips, Ok(most_loops)),
         Call { room: skips.len(), area_length: 9, ..call("just enough room", plain.clone(), WithSkips, Ok(skips.clone())) },
         Call { room: 0, ..call("empty sheet", vec![], WithSkips, Ok(vec![])) },
         call("a loop cut off", cut_off, WithSkips, Err(1)),
         call("kind 7", vec![7], WithSkips, Err(2)),
         call("a skip of 4,096", kind_6(4096), WithoutSkips, Err(3)),
+        Call { room: 0, area_length: 0, ..call("129 records, nothing lent", records_129, WithSkips, Err(4)) },
         Call { room: 0, area_length: 0, ..call("a loop left open, nothing lent", left_open, WithSkips, Err(5)) },
         call("another skip to 2", other.clone(), WithoutSkips, Err(10)),
         Call { room: 0, area_length: 0, ..call("another skip to 2, nothing lent", other, WithoutSkips, Err(10)) },

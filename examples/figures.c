@@ -52,7 +52,17 @@ static const uint8_t stride_below[] = {LOOP(0, 0, -1001), CONSTANT(9), CONSTANT(
 static const uint8_t too_large_skip[] = {SKIP_LOOP(5, 1, 1), CONSTANT(0), CONSTANT(-1), SKIP(4096), END};
 static const uint8_t kind_7[] = {7};
 static const uint8_t least_above_most[] = {WORK(5, 3)};
-static const uint8_t records_65[] = {TWICE(TWICE(TWICE(TWICE(TWICE(CHOICE, END))))), CHOICE};
+#define WORKS_64 EIGHT_TIMES(EIGHT_TIMES(WORK(1, 2)))
+static const uint8_t works_65[] = {WORKS_64, WORK(1, 2)};
+static const uint8_t works_128[] = {WORKS_64, WORKS_64};
+static const uint8_t records_129[] = {EIGHT_TIMES(EIGHT_TIMES(CHOICE, END)), CHOICE};
+/* 128 records too: four loops of 2,048 trips, 2^44 in all, over 8 times 15 works. The most is above 2^62. */
+#define TRIPS_2048 LOOP(0, 0, 1), CONSTANT(0), CONSTANT(2047)
+#define LONG_WORK WORK(1, 4095)
+static const uint8_t long_and_deep[] = {
+    TRIPS_2048, TRIPS_2048, TRIPS_2048, TRIPS_2048,
+    EIGHT_TIMES(EIGHT_TIMES(LONG_WORK), TWICE(TWICE(LONG_WORK)), TWICE(LONG_WORK), LONG_WORK),
+    END, END, END, END};
 
 struct call {
     const char *tells;
@@ -87,6 +97,10 @@ static const struct call calls[] = {
     {"i N to 1 by -1, j i to 1 by -1, work 4 to 7, N 0", WHOLE(flush), 0, 100, AREA, 0, {0, 0, 0}},
     {"i 9 to 0 by -1, j i to 0 by -2", WHOLE(uneven_down), 0, 100, AREA, 0, {30, 30, 20}},
     {"20 visits, budget 20", WHOLE(uneven), 0, 20, AREA, 0, {30, 30, 20}},
+    {"65 works of 1 to 2", WHOLE(works_65), 0, 100, AREA, 0, {65, 130, 0}},
+    {"128 works of 1 to 2", WHOLE(works_128), 0, 100, AREA, 0, {128, 256, 0}},
+    {"2^44 trips over 120 works of 1 to 4,095", WHOLE(long_and_deep), 0, 100, AREA, 0,
+     {(uint64_t)120 << 44, (uint64_t)(120 * 4095) << 44, 64}},
     {"an area of 32 bytes", WHOLE(costs), 0, 100, AREA + 8, 0, {42, 62, 1}},
     {"a loop cut off", triangle, 20, 0, 100, AREA, PUMDALIN_CUT_OFF, {0}},
     {"a loop with a skip, cut off", skipped, 26, 0, 100, AREA, PUMDALIN_CUT_OFF, {0}},
@@ -95,7 +109,7 @@ static const struct call calls[] = {
     {"a stride of 0", WHOLE(stride_0), 0, 100, AREA, PUMDALIN_FIELD, {0}},
     {"a stride of -1,001", WHOLE(stride_below), 0, 100, AREA, PUMDALIN_FIELD, {0}},
     {"a least above its most", WHOLE(least_above_most), 0, 100, AREA, PUMDALIN_FIELD, {0}},
-    {"65 records", WHOLE(records_65), 0, 100, AREA, PUMDALIN_TOO_MANY_RECORDS, {0}},
+    {"129 records", WHOLE(records_129), 0, 100, AREA, PUMDALIN_TOO_MANY_RECORDS, {0}},
     {"a loop left open", costs, sizeof costs - 1, 0, 100, AREA, PUMDALIN_NESTING, {0}},
     {"i 0 to 2,048", WHOLE(too_long_loop), 0, 100, AREA, PUMDALIN_CEILING, {0}},
     {"budget 0", WHOLE(costs), 0, 0, AREA, PUMDALIN_BUDGET, {0}},

@@ -77,6 +77,12 @@ fn up_to(last: i16) -> Vec<u8> {
     nest(&[plain(constant(0), constant(last))], work(1, 1))
 }
 
+/// Four loops of 2,048 trips, 2^44 in all, over 120 works: 128 records. The most is above 2^62.
+fn long_and_deep() -> Vec<u8> {
+    let loops = vec![plain(constant(0), constant(2047)); 4];
+    nest(&loops, work(1, 4095).repeat(120))
+}
+
 fn answered_calls() -> Vec<Call> {
     let partly_empty = [plain(constant(1), constant(7)), plain(index_i(0), constant(2))];
     let even = [by(2, constant(0), constant(18)), by(2, constant(0), index_i(0))];
@@ -107,13 +113,16 @@ fn answered_calls() -> Vec<Call> {
         answered("i N to 1 by -1, j i to 1 by -1, work 4 to 7, N 0", flush(), 0, 0, 0),
         answered("i 9 to 0 by -1, j i to 0 by -2", nest(&uneven_down, work(1, 1)), 30, 30, 20),
         Call { budget: 20, ..answered("20 visits, budget 20", uneven(), 30, 30, 20) },
+        answered("65 works of 1 to 2", work(1, 2).repeat(65), 65, 130, 0),
+        answered("128 works of 1 to 2", work(1, 2).repeat(128), 128, 256, 0),
+        answered("2^44 trips over 120 works of 1 to 4,095", long_and_deep(), 120 << 44, (120 * 4095) << 44, 64),
         Call { area_length: 32, ..answered("an area of 32 bytes", costs(), 42, 62, 1) },
     ]
 }
 
 fn refused_calls() -> Vec<Call> {
     let left_open = costs()[..costs().len() - 1].to_vec();
-    let records_65 = [[CHOICE, END].concat().repeat(32), CHOICE.to_vec()].concat();
+    let records_129 = [[CHOICE, END].concat().repeat(64), CHOICE.to_vec()].concat();
     vec![
         refused("a loop cut off", triangle()[..20].to_vec(), 1),
         refused("a loop with a skip, cut off", skipped(2)[..26].to_vec(), 1),
@@ -122,7 +131,7 @@ fn refused_calls() -> Vec<Call> {
         refused("a stride of 0", nest(&[by(0, constant(9), constant(0))], vec![]), 3),
         refused("a stride of -1,001", nest(&[by(-1001, constant(9), constant(0))], vec![]), 3),
         refused("a least above its most", work(5, 3), 3),
-        refused("65 records", records_65, 4),
+        refused("129 records", records_129, 4),
         refused("a loop left open", left_open, 5),
         refused("i 0 to 2,048", up_to(2048), 6),
         Call { budget: 0, ..refused("budget 0", costs(), 7) },

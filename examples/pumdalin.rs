@@ -36,7 +36,7 @@ extern "C" {
 pub const AREA_LENGTH: usize = 24;
 pub const LENGTH_AREA_LENGTH: usize = 8;
 /// Bytes that hold every sheet.
-pub const SHEET_LENGTH: usize = 1728;
+pub const SHEET_LENGTH: usize = 3456;
 
 #[derive(Clone, Copy, Debug, PartialEq, Eq)]
 pub struct Figures {

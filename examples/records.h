@@ -21,5 +21,6 @@
 #define INDEX_J(constant) FORM(constant, 0, 1, 0, 0)
 #define PARAMETER_1 FORM(0, 0, 0, 0, 1)
 #define TWICE(...) __VA_ARGS__, __VA_ARGS__
+#define EIGHT_TIMES(...) TWICE(TWICE(TWICE(__VA_ARGS__)))
 
 #endif

@@ -6,25 +6,29 @@
 #include <pumdalin.h>
 
 #include "guarded.h"
+#include "records.h"
 
-/* Parameters 0, budget 100; work 3 to 5. */
-static const uint8_t one_work[] = {0, 0, 0, 0, 0, 0, 0, 0, 100, 0, 0, 0, 1, 3, 0, 5, 0};
-/* p1 is 2 and the other parameters 0; a loop i 1..p1 over work 1. */
-static const uint8_t one_loop[] = {
-    2, 0, 0, 0, 0, 0, 0, 0, 100, 0, 0, 0,
-    2, 0, 0, 0, 0, 1, 0, 1, 0, 0, 0, 0, 0, 0, 0, 0, 0, 0, 0, 0, 0, 1, 0, 0, 0, 1, 1, 0, 1, 0, 3};
-/* The parameters 0; a loop i 0..9 over a loop j 0..i by 2 over work 1. */
+/* Parameter 1, the others 0; a budget of 100. */
+#define ASKED(p1) TWO_BYTES(p1), 0, 0, 0, 0, 0, 0, 100, 0, 0, 0
+static const uint8_t one_work[] = {ASKED(0), WORK(3, 5)};
+static const uint8_t one_loop[] = {ASKED(2), LOOP(0, 0, 1), CONSTANT(1), PARAMETER_1, WORK(1, 1), END};
 static const uint8_t uneven_loops[] = {
-    0, 0, 0, 0, 0, 0, 0, 0, 100, 0, 0, 0,
-    2, 0, 0, 0, 0, 1, 0, 0, 0, 0, 0, 0, 0, 0, 0, 0, 9, 0, 0, 0, 0, 0, 0, 0, 0,
-    2, 0, 0, 0, 0, 2, 0, 0, 0, 0, 0, 0, 0, 0, 0, 0, 0, 0, 1, 0, 0, 0, 0, 0, 0,
-    1, 1, 0, 1, 0, 3, 3};
-static const uint8_t kind_9[] = {0, 0, 0, 0, 0, 0, 0, 0, 100, 0, 0, 0, 9};
+    ASKED(0), LOOP(0, 0, 1), CONSTANT(0), CONSTANT(9), LOOP(0, 0, 2), CONSTANT(0), INDEX_I(0), WORK(1, 1), END, END};
+static const uint8_t kind_9[] = {ASKED(0), 9};
+#define WORKS_64 EIGHT_TIMES(EIGHT_TIMES(WORK(1, 2)))
+static const uint8_t works_65[] = {ASKED(0), WORKS_64, WORK(1, 2)};
+static const uint8_t works_128[] = {ASKED(0), WORKS_64, WORKS_64};
+static const uint8_t works_129[] = {ASKED(0), WORKS_64, WORKS_64, WORK(1, 2)};
+/* 64 loops, the most that a sheet can have: 32 nests of two with one trip each, of which the outer is walked. */
+enum { NESTS = 32, OUTER_LENGTH = 25, NEST_LENGTH = 52 };
+#define NEST LOOP(0, 0, 1), CONSTANT(0), CONSTANT(0), LOOP(0, 0, 2), CONSTANT(0), INDEX_I(0), END, END
+static const uint8_t most_loops[] = {ASKED(0), TWICE(TWICE(EIGHT_TIMES(NEST)))};
 
 #define ONE_WORK "best 3 worst 5 visits 0\n"
 #define ONE_LOOP "best 2 worst 2 visits 1\nloop 0 closed ceiling 2\n"
 #define UNEVEN_LOOPS \
     "best 30 worst 30 visits 20\nloop 0 walked ceiling 10\nloop 25 is uneven in loop 0\nloop 25 closed ceiling 5\n"
+#define REFUSED_4 "refused 4 at 640\n"
 #define REFUSED_2 "refused 2 at 0\n"
 #define REFUSED_1 "refused 1 at 0\n"
 
@@ -47,6 +51,9 @@ static const struct call calls[] = {
     {"a loop", WHOLE(one_loop), LENGTH(ONE_LOOP), AREA, 0, ONE_LOOP},
     {"a walked loop, with its reason", WHOLE(uneven_loops), LENGTH(UNEVEN_LOOPS), AREA, 0, UNEVEN_LOOPS},
     {"a longer buffer and a longer area", WHOLE(one_loop), LENGTH(ONE_LOOP) + 5, AREA + 3, 0, ONE_LOOP},
+    {"65 records", WHOLE(works_65), 100, AREA, 0, "best 65 worst 130 visits 0\n"},
+    {"128 records", WHOLE(works_128), 100, AREA, 0, "best 128 worst 256 visits 0\n"},
+    {"129 records", WHOLE(works_129), 100, AREA, 0, REFUSED_4},
     {"a refused sheet", WHOLE(kind_9), 100, AREA, 0, REFUSED_2},
     {"11 bytes of input", one_work, 11, 100, AREA, 0, REFUSED_1},
     {"no input", one_work, 0, 100, AREA, 0, REFUSED_1},
@@ -83,6 +90,23 @@ static void check_text(const struct call *call)
     guarded_release(&input);
     guarded_release(&text);
     guarded_release(&area);
+}
+
+/* A text for which PUMDALIN_TEXT_LENGTH is there: with the lines of as many loops as a sheet can have. */
+static void check_most_loops(void)
+{
+    static uint8_t text[PUMDALIN_TEXT_LENGTH];
+    static char expected[PUMDALIN_TEXT_LENGTH];
+    uint8_t area[AREA];
+    size_t length = (size_t)sprintf(expected, "best 0 worst 0 visits %d\n", 2 * NESTS);
+    for (int outer = 0; outer < NESTS * NEST_LENGTH; outer += NEST_LENGTH) {
+        int inner = outer + OUTER_LENGTH;
+        length += (size_t)sprintf(expected + length, "loop %d walked ceiling 1\nloop %d is uneven in loop %d\n"
+                                  "loop %d closed ceiling 1\n", outer, inner, outer, inner);
+    }
+    check(pumdalin_text(WHOLE(most_loops), text, sizeof text, area, sizeof area) == 0
+              && pumdalin_length(area) == length && memcmp(text, expected, length) == 0,
+          "64 loops");
 }
 
 /* A null pointer with length 0 is an empty sheet, an empty input, an empty buffer or an empty area. */
@@ -129,6 +153,7 @@ int main(void)
 {
     for (size_t i = 0; i < sizeof calls / sizeof calls[0]; i++)
         check_text(&calls[i]);
+    check_most_loops();
     check_null_pointers();
     check_header();
     printf("%lu of %lu as the header says\n", (unsigned long)good, (unsigned long)(good + bad));

@@ -26,7 +26,7 @@ enum pumdalin_refusal {
     PUMDALIN_CUT_OFF = 1,          /* the sheet ends inside a record */
     PUMDALIN_NO_SUCH_KIND = 2,     /* no kind of record has this number */
     PUMDALIN_FIELD = 3,            /* a field is out of its range */
-    PUMDALIN_TOO_MANY_RECORDS = 4, /* more than 64 */
+    PUMDALIN_TOO_MANY_RECORDS = 4, /* more than 128 */
     PUMDALIN_NESTING = 5,          /* a record that may not stand there, or something open at the end */
     PUMDALIN_CEILING = 6,          /* a loop may make more than 2,048 trips at these parameters */
     PUMDALIN_BUDGET = 7,           /* the budget is 0 or above 1,000,000 */
@@ -40,8 +40,8 @@ enum pumdalin_refusal {
 enum {
     PUMDALIN_AREA_LENGTH = 24,       /* bytes of the area that takes figures */
     PUMDALIN_LENGTH_AREA_LENGTH = 8, /* bytes of the area that takes the length of a text or of a sheet */
-    PUMDALIN_SHEET_LENGTH = 1728,    /* bytes that hold every sheet: 64 records of at most 27 */
-    PUMDALIN_TEXT_LENGTH = 4145,     /* bytes that hold every text of pumdalin_text */
+    PUMDALIN_SHEET_LENGTH = 3456,    /* bytes that hold every sheet: 128 records of at most 27 */
+    PUMDALIN_TEXT_LENGTH = 8209,     /* bytes that hold every text of pumdalin_text */
     /* bytes of stack that suffice for each call */
     PUMDALIN_FIGURES_STACK = 10000,
     PUMDALIN_TEXT_STACK = 20000,
@@ -49,9 +49,9 @@ enum {
     PUMDALIN_WITHOUT_SKIPS_STACK = 10000
 };
 
-/* Stores least, most and visits, 8 bytes each, low byte first, in the first 24 bytes of the area. 9 comes before every other
- * refusal, 7 before 1 to 6, these before 8. It works through at most budget + 1 visits, each of which passes at most 64
- * records. */
+/* Stores least, most and visits, 8 bytes each, low byte first, in the first 24 bytes of the area; each is below 2^63. 9 comes
+ * before every other refusal, 7 before 1 to 6, these before 8. It works through at most budget + 1 visits, each of which passes
+ * at most 128 records. */
 uint32_t pumdalin_figures(const uint8_t *sheet, size_t sheet_length,
                           int16_t p1, int16_t p2, int16_t p3, int16_t p4,
                           uint32_t budget,
@@ -59,7 +59,7 @@ uint32_t pumdalin_figures(const uint8_t *sheet, size_t sheet_length,
 
 /* Stores what the program `bound` prints for this input: four parameters of 2 bytes each, a budget of 4 bytes, and the sheet,
  * low bytes first. The text goes into the buffer, its length, 8 bytes, low byte first, into the area. It has a line with the
- * figures, at most 81 bytes; then for each loop, of which there are at most 32, a line of at most 62 and, after that of a
+ * figures, at most 81 bytes; then for each loop, of which there are at most 64, a line of at most 62 and, after that of a
  * walked loop, a line of at most 65 that says why it is walked. A refusal of the sheet is text too: the call itself refuses 9
  * for an area of under 8 bytes, and then 12 for a buffer that is shorter than the text. */
 uint32_t pumdalin_text(const uint8_t *input, size_t input_length,
@@ -76,7 +76,8 @@ uint32_t pumdalin_with_skips(const uint8_t *sheet, size_t sheet_length,
 
 /* The way back, for programs that know no kind 6: each loop of kind 6 is made one of kind 2. After 1 to 5 and before 9 it is
  * refused 10 where a loop's skip differs from its start. What pumdalin_with_skips made of a sheet without kind 6 becomes that
- * sheet again. Both calls keep each loop's stride with its sign; programs that know no negative stride refuse it with 3. */
+ * sheet again. Both calls keep each loop's stride with its sign, and all records; programs that know no negative stride refuse
+ * it with 3, and those that know sheets of at most 64 records a longer one with 4. */
 uint32_t pumdalin_without_skips(const uint8_t *sheet, size_t sheet_length,
                                 uint8_t *sheet_out, size_t sheet_out_length,
                                 uint8_t *answer, size_t answer_length);
@@ -121,7 +122,7 @@ static inline const char *pumdalin_words(uint32_t number)
     case PUMDALIN_CUT_OFF: return "the sheet ends inside a record";
     case PUMDALIN_NO_SUCH_KIND: return "no kind of record has this number";
     case PUMDALIN_FIELD: return "a field of a record is out of its range";
-    case PUMDALIN_TOO_MANY_RECORDS: return "the sheet has more than 64 records";
+    case PUMDALIN_TOO_MANY_RECORDS: return "the sheet has more than 128 records";
     case PUMDALIN_NESTING: return "a record may not stand where it does, or something is open at the sheet's end";
     case PUMDALIN_CEILING: return "a loop may make more than 2,048 trips at these parameters";
     case PUMDALIN_BUDGET: return "the budget is 0 or above 1,000,000";

@@ -24,7 +24,7 @@ def shown(sheet: bytes, parameters: Parameters, budget: int) -> str:
 def shown_input(data: bytes) -> str:
     """What `bound` sees of its input."""
     if len(data) < HEADER_LENGTH:
-        return f"# {data.hex(' ') or 'no bytes'}"
+        return f"# shorter than its header: {data.hex(' ') or 'no bytes'}"
     return shown(*from_input(data[:INPUT_LIMIT]))
 
 

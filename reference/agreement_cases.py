@@ -13,10 +13,11 @@ from calls import ANSWER_LENGTH, LENGTH_AREA, answer, answer_text, program_text,
 from conversions import CONVERTERS, Conversion, with_equal_skips
 from converter_cases import kept_conversions
 from figure_cases import with_edges
-from generate import SIZES, Case, cases
+from generate import SIZES, Case, cases, long_case
 from kept import kept_readings
-from known import ZERO
+from known import TOO_MANY_TRIPS, ZERO
 from known_reasons import KNOWN_REASONS
+from long_calls import LONG_C_CALLS, LONG_TEXTS
 from pumdalin.answers import Answer, Refusal
 from pumdalin.characters import decoded
 from pumdalin.errors import ListingError
@@ -24,6 +25,9 @@ from pumdalin.inputs import program_input
 from pumdalin.listing_reader import read_listing
 from pumdalin.records import LOOP, SKIP_LOOP
 from walked import BUDGET, walked_case
+
+# The program that runs the stored cases has so much room for an input; `bound` looks at less.
+MOST_INPUT = 4096
 
 
 class Expected(NamedTuple):
@@ -82,7 +86,10 @@ def kept_trials() -> list[Trial]:
     for line in kept_readings():
         case = Case("reading", line.sheet, line.parameters, line.budget)
         trials.append(trial(Expected(f"reading '{line.tells}'", case, line.answer)))
-    for kept in C_CALL_CASES:
+    for known in TOO_MANY_TRIPS:
+        case = Case("known", known.sheet(), known.parameters, known.budget)
+        trials.append(trial(Expected(f"known sheet '{known.tells}'", case, known.answer)))
+    for kept in C_CALL_CASES + [long.case for long in LONG_C_CALLS]:
         given = (kept.sheet, kept.parameters, kept.budget)
         expected = Expected(f"C call '{kept.tells}'", Case("call", *given), answer(*given))
         trials.append(trial(expected, kept.area))
@@ -104,8 +111,11 @@ def converter_call(tells: str, given: Conversion) -> ConverterCall:
 
 
 def kept_texts() -> list[TextCall]:
-    """The cases of `bound`, those of the text call, those of document 02, and known reasons."""
+    """The cases of `bound`, those of the text call, those of document 02, long ones, and known reasons."""
     texts = requested_texts()
+    for long in LONG_TEXTS:
+        text = sufficient_text_call(f"long text '{long.tells}'", long.data, long.text.encode())
+        texts += with_one_byte_short(text) + [replace(text, area=text.area[1:])]
     for reasons in KNOWN_REASONS:
         data = program_input(reasons.sheet(), reasons.parameters, BUDGET)
         texts.append(sufficient_text_call(f"reasons of '{reasons.tells}'", data, program_text(data)))
@@ -123,16 +133,21 @@ def requested_texts() -> list[TextCall]:
     texts: list[TextCall] = []
     for printed in readings.parse_requests():
         text = sufficient_text_call(f"{printed.request} '{printed.tells}'", printed.data, printed.text)
-        texts += [text, replace(text, buffer=text.buffer[1:])]
+        texts += with_one_byte_short(text)
     return texts
 
 
+def with_one_byte_short(text: TextCall) -> list[TextCall]:
+    """The call, and the same with a buffer that is one byte shorter."""
+    return [text, replace(text, buffer=text.buffer[1:])]
+
+
 def random_trials(seed: int) -> Iterator[Trial]:
-    """Trials without end: valid, damaged and hostile sheets of all sizes, and walked ones."""
+    """Trials without end: valid, damaged and hostile sheets of all sizes, walked ones and long ones."""
     random = Random(seed)
     number = 0
     for size in cycle(SIZES.values()):
-        for case in [*cases(random, 1, size), walked_case(random)]:
+        for case in [*cases(random, 1, size), walked_case(random), long_case(random)]:
             for edge, result in with_edges(case):
                 number += 1
                 tells = f"seed {seed}, case {number}: a {case.kind} sheet"
@@ -166,7 +181,7 @@ def random_text_call(random: Random, plain: TextCall) -> TextCall:
 
 def random_input(random: Random, data: bytes) -> bytes:
     """Mostly as it is; now and then with bytes after the sheet, or cut off."""
-    longer = data + random.randbytes(random.randrange(2000))
+    longer = data + random.randbytes(random.randrange(MOST_INPUT - len(data)))
     shorter = data[:random.randrange(len(data))]
     return random.choice([data] * 8 + [longer, shorter])
 

@@ -48,7 +48,7 @@ C_CALL_CASES = [
     CallCase("1", TRIANGLE[:20], ZERO, 1, area(26)),
     CallCase("2", ONE_WORK + b"\x07", ZERO, 1, area(26)),
     CallCase("3", encode(Work(0, 4096)), ZERO, 1, area(24)),
-    CallCase("4", b"\x04\x03" * 32 + b"\x09", ZERO, 1, area(24)),
+    CallCase("4", b"\x04\x03" * 64 + b"\x09", ZERO, 1, area(24)),
     CallCase("5", b"\x03", ZERO, 1, area(24)),
     CallCase("5, open at the end", b"\x04", ZERO, 1, area(24)),
     CallCase("6", encode_all([span(0, 2048), End()]), ZERO, 1, area(24)),
@@ -178,10 +178,10 @@ def text_call_case(
 PRINTED = program_input(TRIANGLE)
 REFUSED = program_input(ONE_WORK + b"\x07")
 WALKED = program_input(UNEVEN)
-MOST_LINES = program_input(encode_all([span(0, 2047, start=4095, step=4095), End()] * 32))
-# 32 loops, of which 24 are walked
-MOST_REASONS = program_input(encode_all(([span(0, 0)] * 3 + [span(0, -5)] + [End()] * 4) * 8))
-TOO_LONG = program_input(b"\x04\x03" * 1000)
+MOST_LINES = program_input(encode_all([span(0, 2047, start=4095, step=4095), End()] * 64))
+# 64 loops, of which 48 are walked
+MOST_REASONS = program_input(encode_all(([span(0, 0)] * 3 + [span(0, -5)] + [End()] * 4) * 16))
+TOO_LONG = program_input(b"\x04\x03" * 2000)
 
 TEXT_CALL_CASES = [
     text_call_case("buffer as long as the text", PRINTED),
@@ -203,12 +203,12 @@ TEXT_CALL_CASES = [
     text_call_case("no input", b"", spare=3),
     TextCallCase("no input and no buffer: 12", b"", b"", area(8)),
     TextCallCase("nothing at all: 9", b"", b"", b""),
-    text_call_case("a line for each of 32 loops", MOST_LINES),
-    text_call_case("a line for each of 32 loops, buffer one byte short", MOST_LINES, spare=-1),
+    text_call_case("a line for each of 64 loops", MOST_LINES),
+    text_call_case("a line for each of 64 loops, buffer one byte short", MOST_LINES, spare=-1),
     text_call_case("a reason's line", WALKED),
     text_call_case("a reason's line, buffer one byte short", WALKED, spare=-1),
     text_call_case("a reason's line, buffer one byte longer: it stays", WALKED, spare=1),
-    text_call_case("24 reasons", MOST_REASONS),
-    text_call_case("24 reasons, buffer one byte short", MOST_REASONS, spare=-1),
+    text_call_case("48 reasons", MOST_REASONS),
+    text_call_case("48 reasons, buffer one byte short", MOST_REASONS, spare=-1),
     text_call_case("more input than bound reads", TOO_LONG),
 ]

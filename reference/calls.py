@@ -13,7 +13,7 @@ from trips import Bounds, TooMany
 
 ANSWER_LENGTH = 24
 LENGTH_AREA = 8
-INPUT_LIMIT = 1741
+INPUT_LIMIT = 3469
 
 # Up to so many trips the figures come from going over every trip.
 TRIP_LIMIT = 4_000

@@ -9,14 +9,14 @@ from calls import answer
 from nest import LoopFacts, Range, facts, index_range, loop_reports, value
 from pumdalin.answers import Figures, Refusal
 from pumdalin.inputs import Parameters
-from pumdalin.records import Choice, End, Form, Loop, Record, Work, encode_all, offsets
+from pumdalin.records import MOST_RECORDS, Choice, End, Form, Loop, Record, Work, encode_all, offsets
 from reasons import HoldsLoop, Reason, TooFewTrips, UnevenIn, read_reason
 from sheet import BLANK, RawRecord, Written, raw, read, write
 from tree import Body, ChoiceNode, loops_directly_in, tree
 from trips import Bounds, TooMany
 
 # Every figure is below this; where every loop is closed, there are so many visits a loop at most.
-FIGURE_LIMIT = 2 ** 62
+FIGURE_LIMIT = 2 ** 63
 VISITS_PER_LOOP = 24
 
 
@@ -25,7 +25,7 @@ def check_round_trip(records: list[Record]) -> None:
     sheet = encode_all(records)
     assert read(sheet) == records
     entries = [raw(record) for record in records]
-    past = [RawRecord(kind=9)] if len(records) < 64 else []
+    past = [RawRecord(kind=9)] if len(records) < MOST_RECORDS else []
     written = write(entries + past, len(records), b"\xaa" * (len(sheet) + 3))
     assert written == Written(len(sheet), sheet + b"\xaa" * 3)
     if sheet:

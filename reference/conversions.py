@@ -79,15 +79,15 @@ ALL_EQUAL = [
     Choice(), span(-2, 4095, stride=3, start=258, step=7, skip=258), loop(form(i=-1), form(5, i=1), skip=0), UNIT, END,
     END, NextArm(), *PLAIN, END,
 ]
-# As many loops as 64 records have room for: of one kind, of both in turn, in nests of four.
+# As many loops as 128 records have room for: of one kind, of both in turn, in nests of four.
 LONGEST = [
-    PLAIN * 32, EQUAL * 32, (PLAIN + EQUAL) * 16,
-    (PLAIN[:1] * 4 + [END] * 4) * 8, (EQUAL[:1] * 4 + [END] * 4) * 8, (PLAIN[:1] + EQUAL[:1] * 3 + [END] * 4) * 8,
+    PLAIN * 64, EQUAL * 64, (PLAIN + EQUAL) * 32,
+    (PLAIN[:1] * 4 + [END] * 4) * 16, (EQUAL[:1] * 4 + [END] * 4) * 16, (PLAIN[:1] + EQUAL[:1] * 3 + [END] * 4) * 16,
 ]
 SHORT_LOOP = encode_all(EQUAL)[:26]
 HIGH_SKIP = encode_all([span(0, 3, skip=4096), END])
 LONG_STRIDE = encode_all([span(3, 0, -1001, start=3, skip=3), END])
-TOO_MANY = b"\x04\x03" * 32 + b"\x03"
+TOO_MANY = b"\x04\x03" * 64 + b"\x03"
 
 TO_SKIPS = [
     conversion("kind 2 becomes kind 6, its skip its start", SKIP_LOOP, PLAIN),
@@ -108,7 +108,7 @@ TO_SKIPS = [
     refused("to kind 6, 1 before 9", SKIP_LOOP, 1, 0, SHORT_LOOP),
     refused("to kind 6, 2 before 9", SKIP_LOOP, 2, 1, b"\x04\x07"),
     refused("to kind 6, 3 before 9", SKIP_LOOP, 3, 0, HIGH_SKIP),
-    refused("to kind 6, 4 before 9", SKIP_LOOP, 4, 64, TOO_MANY),
+    refused("to kind 6, 4 before 9", SKIP_LOOP, 4, 128, TOO_MANY),
     refused("to kind 6, 5 before 9", SKIP_LOOP, 5, 26, encode_all(PLAIN + [END])),
     refused("to kind 6, open at the end before 9", SKIP_LOOP, 5, 25, encode_all(PLAIN[:1])),
     refused("to kind 6, a refusal leaves buffer and area", SKIP_LOOP, 3, 0, HIGH_SKIP, 30, 9),
@@ -138,7 +138,7 @@ FROM_SKIPS = [
     refused("1 of a later record before 10", LOOP, 1, 28, encode_all(BELOW) + SHORT_LOOP),
     refused("2 of a later record before 10", LOOP, 2, 28, encode_all(BELOW) + b"\x07"),
     refused("3 of a later record before 10", LOOP, 3, 28, encode_all(BELOW + [Work(2, 1)])),
-    refused("4 before 10", LOOP, 4, 90, encode_all(BELOW) + TOO_MANY),
+    refused("4 before 10", LOOP, 4, 154, encode_all(BELOW) + TOO_MANY),
     refused("5 of a later record before 10", LOOP, 5, 28, encode_all(BELOW + [END])),
     refused("open at the end before 10", LOOP, 5, 27, encode_all(BELOW[:1])),
 ]

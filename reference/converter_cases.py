@@ -17,9 +17,10 @@ from typing import Iterator
 import readings
 from conversions import CONVERSIONS, CONVERTERS, LONGEST, Conversion, with_equal_skips
 from converters import convert_called, stored
-from generate import SIZES, cases
+from generate import SIZES, Case, cases, long_case
 from known import MARKED
 from known_reasons import DOWN, SKIPS
+from long_calls import LONG_CONVERSIONS
 from pumdalin.answers import Refusal
 from pumdalin.records import LOOP, SKIP_LOOP, encode_all, two_bytes_each
 from sheet import read
@@ -28,7 +29,8 @@ from walked import walked_case
 
 SEED = 2054
 # of each size, four sheets each: valid, damaged, hostile, walked
-RANDOM_SHEETS = 14
+RANDOM_SHEETS = 12
+RANDOM_LONG_SHEETS = 14
 WHICH = {SKIP_LOOP: 8, LOOP: 9}
 # The program has so much room for a buffer and for an area.
 MOST_BUFFER = 2048
@@ -47,7 +49,7 @@ def converter_case(case: Conversion) -> bytes:
 
 def kept_conversions() -> list[Conversion]:
     """The cases by hand, those of document 02, and known sheets and the longest ones both ways."""
-    made = list(CONVERSIONS)
+    made = CONVERSIONS + [long.case for long in LONG_CONVERSIONS]
     for line in readings.parse_conversions():
         made.append(Conversion(line.tells, line.kind, line.sheet, bytes(line.room), bytes(8)))
     sheets = [known.sheet() for known in MARKED + SKIPS + DOWN]
@@ -69,12 +71,18 @@ def exact(kind: int, sheet: bytes) -> list[Conversion]:
 
 def random_conversions(random: Random) -> Iterator[Conversion]:
     """Sheets of all sorts both ways; the sheets that can be read also with every skip its start."""
+    for case in random_cases(random):
+        yield random_conversion(random, SKIP_LOOP, case.sheet)
+        yield random_conversion(random, LOOP, case.sheet)
+        if not isinstance(read(case.sheet), Refusal):
+            yield random_conversion(random, LOOP, with_equal_skips(case.sheet))
+
+
+def random_cases(random: Random) -> Iterator[Case]:
     for size in SIZES.values():
-        for case in [*cases(random, RANDOM_SHEETS, size), *(walked_case(random) for _ in range(RANDOM_SHEETS))]:
-            yield random_conversion(random, SKIP_LOOP, case.sheet)
-            yield random_conversion(random, LOOP, case.sheet)
-            if not isinstance(read(case.sheet), Refusal):
-                yield random_conversion(random, LOOP, with_equal_skips(case.sheet))
+        yield from cases(random, RANDOM_SHEETS, size)
+        yield from [walked_case(random) for _ in range(RANDOM_SHEETS)]
+    yield from [long_case(random) for _ in range(RANDOM_LONG_SHEETS)]
 
 
 def random_conversion(random: Random, kind: int, sheet: bytes) -> Conversion:

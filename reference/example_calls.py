@@ -148,7 +148,7 @@ def reason_equations() -> list[Equation]:
 def number_equations() -> list[Equation]:
     """Numbers of the requirement that stand in theorems and that no case meets."""
     return [
-        Equation("every figure is below 2^62", term("figure limit"), str(FIGURE_LIMIT)),
+        Equation("every figure is below 2^63", term("figure limit"), str(FIGURE_LIMIT)),
         Equation("visits a loop, where every loop is closed",
                  term("visits per loop"), str(VISITS_PER_LOOP)),
         Equation("bytes of the program's input that matter", term("input limit"), str(INPUT_LIMIT)),

@@ -11,7 +11,7 @@ and the 24 bytes of the answer area: least, most and visits, or zeros.
 from random import Random
 
 from calls import answer
-from generate import SIZES, Case, cases
+from generate import SIZES, Case, cases, long_case
 from kept import kept_cases
 from pumdalin.answers import Answer, Figures
 from pumdalin.inputs import encode_parameters
@@ -20,7 +20,8 @@ from stored import main
 
 SEED = 2051
 # of each size, three sheets each: valid, damaged, hostile
-RANDOM_CASES = {"small": 420, "middle": 230, "large": 55}
+RANDOM_CASES = {"small": 400, "middle": 210, "large": 40}
+RANDOM_LONG_SHEETS = 50
 FIGURES = 4
 
 
@@ -57,6 +58,7 @@ def all_cases() -> bytes:
     given = kept_cases()
     for name, size in SIZES.items():
         given += cases(random, RANDOM_CASES[name], size)
+    given += [long_case(random) for _ in range(RANDOM_LONG_SHEETS)]
     return b"".join(figure_case(*answered) for case in given for answered in with_edges(case))
 
 

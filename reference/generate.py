@@ -1,8 +1,8 @@
-"""Random sheets from a fixed seed: valid, damaged and hostile.
+"""Random sheets from a fixed seed: valid, damaged and hostile; and long ones, aimed at the limit of records.
 
     python3 generate.py SEED COUNT [SIZE]
 
-prints COUNT cases of each kind, one a line, in the form of the readings file.
+prints COUNT cases of each of the first three, one a line, in the form of the readings file.
 SIZE is small, middle or large.
 """
 
@@ -35,6 +35,10 @@ SIZES = {
     "large": Size(MOST_RECORDS, 4, 40),
 }
 
+# Long sheets are aimed at the limit of records before document 02, C-19 and at that since; some have too many.
+LONG = Size(132, 4, 5)
+FEWEST_LONG = 60
+AT_LIMITS = [63, 64, 65, 127, 128, 129]
 
 # Numbers that a damage puts anywhere, and those that it puts into a stride.
 EDGES = [0, 1, 1000, 1001, 4095, 4096, 32767, -32768, -1]
@@ -147,9 +151,29 @@ def budget(random: Random) -> int:
     return random.choice([1, 20, 500, 500, 2000, 2000])
 
 
+def long_records(random: Random) -> list[Record]:
+    """60 to 132 records, every other time just as many as at a limit; nothing is open after them."""
+    count = random.choice([random.randint(FEWEST_LONG, LONG.records), random.choice(AT_LIMITS)])
+    records: list[Record] = []
+    while len(records) < count:
+        records += body(random, LONG, 0, 0, count - len(records))
+    return records
+
+
+def long_case(random: Random) -> Case:
+    """Every fourth one is damaged."""
+    records = long_records(random)
+    sheet = damaged(random, records) if random.random() < 0.25 else encode_all(records)
+    return Case("long", sheet, parameters(random), budget(random))
+
+
 def damaged_sheet(random: Random, size: Size) -> bytes:
     """A valid sheet with one to three damages."""
-    records = valid_records(random, size)
+    return damaged(random, valid_records(random, size))
+
+
+def damaged(random: Random, records: list[Record]) -> bytes:
+    """The sheet of these records with one to three damages."""
     strides = [place + STRIDE_AT for place, record in zip(offsets(records), records) if isinstance(record, Loop)]
     sheet = bytearray(encode_all(records) or b"\x03")
     for _ in range(random.randint(1, 3)):

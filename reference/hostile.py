@@ -55,7 +55,7 @@ def hostile_sheet(random: Random) -> bytes:
     careful = random.random() < 0.67
     sheet = b""
     opened: list[str] = []
-    for room in range(random.choice([6, 8, 16, 40, 63, 64, 65]), 0, -1):
+    for room in range(random.choice([6, 8, 16, 40, 63, 64, 65, 100, 127, 128, 129]), 0, -1):
         kinds = menu(opened, room) if careful else ["work", "loop", "choice", "end", "next"]
         kind = "end" if careful and len(opened) >= room else random.choice(kinds)
         sheet += encode(hostile_record(random, kind, opened.count("loop")))

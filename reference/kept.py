@@ -1,17 +1,20 @@
-"""The sheets that are kept by hand, as cases: those that tell apart, and those with known figures."""
+"""The sheets that are kept by hand, as cases: those that tell apart, long ones, and those with known figures."""
 
 import known
 import readings
 from counting_down import COUNTING_DOWN
 from generate import Case
+from long_sheets import LONG_SHEETS
 
 
 def kept_readings() -> list[readings.Reading]:
-    """The readings file, the telling sheets, and those of loops that count down."""
-    return readings.parse_file(readings.READINGS) + readings.parse_file(readings.TELLING) + COUNTING_DOWN
+    """The readings file, the telling sheets, those of loops that count down, and long ones."""
+    files = readings.parse_file(readings.READINGS) + readings.parse_file(readings.TELLING)
+    return files + COUNTING_DOWN + LONG_SHEETS
 
 
 def kept_cases() -> list[Case]:
-    """All these, then the ten marked sheets."""
+    """All these, then the ten marked sheets and the one with too many trips to go over."""
     kept = [Case("reading", line.sheet, line.parameters, line.budget) for line in kept_readings()]
-    return kept + [Case("known", k.sheet(), k.parameters, k.budget) for k in known.MARKED]
+    sheets = known.MARKED + known.TOO_MANY_TRIPS
+    return kept + [Case("known", k.sheet(), k.parameters, k.budget) for k in sheets]

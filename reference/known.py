@@ -1,4 +1,4 @@
-"""The sheets with known figures, in the order of the requirement's list."""
+"""The sheets with known figures, in the order of the requirement's list; then one of document 02, C-19."""
 
 from typing import NamedTuple, Optional
 
@@ -62,6 +62,10 @@ LOOP_IN_ARM = [
     Work(4, 4), END, END,
 ]
 NO_TRIP = [span(0, -1, stride=3), UNIT, END]
+# A loop of 2,048 trips, loops in it of 2,048 - i, as many works as 128 records have room for; all costs the largest.
+LONG_OUTER = span(0, 2047, start=4095, step=4095)
+LONG_INNER = loop(form(), form(2047, i=-1), start=4095, step=4095)
+LARGEST_TERMS = [LONG_OUTER, *[LONG_INNER] * 3, *[Work(4095, 4095)] * 120, *[END] * 4]
 
 MARKED = [
     Known("empty sheet", EMPTY, ZERO, 100, Figures(0, 0, 0), ""),
@@ -85,4 +89,10 @@ OTHERS = [
     Known("i 0 to 2,048", [span(0, 2048), UNIT, END], ZERO, 100, Refusal(6, 0), ""),
     Known("20 visits, budget 20", UNEVEN, ZERO, 20, Figures(30, 30, 20), "wc"),
     Known("20 visits, budget 19", UNEVEN, ZERO, 19, Refusal(8, 0), ""),
+]
+
+# More trips than can be gone over: no listing has such a sheet, since what listings expect is gone over trip by trip.
+TOO_MANY_TRIPS = [
+    Known("i 0 to 2,047, j, k and l each 0 to 2,047 - i, 120 works", LARGEST_TERMS, ZERO, 100,
+          Figures(2181362195304718335, 2181362195304718335, 64), "cccc"),
 ]

@@ -168,13 +168,24 @@ SEVERAL = [
     KnownReasons("closed nests", known.TRIANGLE + known.THREE_DEEP, [None] * 5),
 ]
 
-# Offsets of three digits, the last ones in a sheet of 64 records.
+# Offsets of three and four digits, the last ones in sheets of 64 and of 128 records.
 FAR = [
     KnownReasons("a choice after 20 works", [UNIT] * 20 + known.LOOP_IN_ARM, [HoldsLoop(125), None]),
     KnownReasons("too few trips after 20 works", [UNIT] * 20 + known.PARTLY_EMPTY, [TooFewTrips(125), None]),
     KnownReasons("uneven after 30 loops", [FOUR, END] * 30 + [FOUR, ODD, END, END], [
         *[None] * 30, UnevenIn(805, 780), None,
     ]),
+    KnownReasons("a choice after 64 works", [UNIT] * 64 + known.LOOP_IN_ARM, [HoldsLoop(345), None]),
+    KnownReasons("a choice as the 121st of 128 records", [UNIT] * 119 + known.LOOP_IN_ARM, [HoldsLoop(620), None]),
+    KnownReasons("too few trips as the 125th of 128 records", [UNIT] * 123 + known.PARTLY_EMPTY, [
+        TooFewTrips(640), None,
+    ]),
+    KnownReasons("uneven after 62 loops", [FOUR, END] * 62 + [FOUR, ODD, END, END], [
+        *[None] * 62, UnevenIn(1637, 1612), None,
+    ]),
+    KnownReasons("a loop around 63 loops, the last but one uneven", [
+        FOUR, *[FINE, END] * 61, ODD, END, FINE, END, END,
+    ], [UnevenIn(1611, 0), *[None] * 63]),
 ]
 
 # Loops in a loop i that make no trip in its first trip: their skip is equal to start, below it, above it.
@@ -226,6 +237,9 @@ SKIPS = [
     ], [None, None]),
     KnownReasons("a skip after 30 loops of kind 6", [span(0, 3, skip=1), END] * 30 + [FOUR, LESS, END, END], [
         *[None] * 30, TooFewTrips(865), None,
+    ]),
+    KnownReasons("a skip after 62 loops of kind 6", [span(0, 3, skip=1), END] * 62 + [FOUR, LESS, END, END], [
+        *[None] * 62, TooFewTrips(1761), None,
     ]),
 ]
 

@@ -14,7 +14,7 @@ offsets of its line, 0 for what it has not.
 from random import Random
 
 import generate
-from generate import SIZES, cases
+from generate import SIZES, cases, long_case
 from kept import kept_cases
 from known_reasons import KNOWN_REASONS
 from nest import ReckonedLoop, accepted, loop_reports
@@ -28,10 +28,11 @@ from walked import walked_case
 
 SEED = 2050
 # of each size, three sheets each: valid, damaged, hostile
-RANDOM_CASES = 185
+RANDOM_CASES = {"small": 185, "middle": 185, "large": 100}
 # of each size, valid ones at several parameters
-VALID_SHEETS = 95
+VALID_SHEETS = {"small": 95, "middle": 95, "large": 45}
 WALKED_SHEETS = 480
+RANDOM_LONG_SHEETS = 60
 PLAN = 3
 
 
@@ -56,11 +57,13 @@ def plan_case(sheet: bytes, parameters: Parameters) -> bytes:
 
 def random_cases(random: Random) -> list[bytes]:
     made: list[bytes] = []
-    for size in SIZES.values():
-        made += [plan_case(case.sheet, case.parameters) for case in cases(random, RANDOM_CASES, size)]
-        for _ in range(VALID_SHEETS):
+    for name, size in SIZES.items():
+        made += [plan_case(case.sheet, case.parameters) for case in cases(random, RANDOM_CASES[name], size)]
+        for _ in range(VALID_SHEETS[name]):
             sheet = generate.encode_all(generate.valid_records(random, size))
             made += [plan_case(sheet, generate.parameters(random)) for _ in range(3)]
+    for case in (long_case(random) for _ in range(RANDOM_LONG_SHEETS)):
+        made.append(plan_case(case.sheet, case.parameters))
     return made
 
 

@@ -14,7 +14,7 @@ from reasons import OFFSET_LIMIT, HoldsLoop, Reason, TooFewTrips, UnevenIn, read
 from stored import main
 
 LINES = 7
-OFFSETS = [0, 1, 9, 10, 25, 99, 100, 805, 999, 1000, 1599, 9999, 10000, 59999, 65499, OFFSET_LIMIT - 1]
+OFFSETS = [0, 1, 9, 10, 25, 99, 100, 805, 999, 1000, 1599, 1764, 3455, 9999, 10000, 59999, 65499, OFFSET_LIMIT - 1]
 # No offsets: too large, by what 16, 32 or 64 bits would lose, or not written as offsets are.
 NO_OFFSETS = [
     str(number) for number in (

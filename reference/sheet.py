@@ -180,7 +180,7 @@ def checked(entries: list[RawRecord], count: int) -> Union[list[Record], Refusal
 
 
 def padded(entries: list[RawRecord]) -> list[RawRecord]:
-    """The caller lends 64 entries; those not given here are blank."""
+    """The caller lends 128 entries; those not given here are blank."""
     return entries + [BLANK] * (MOST_RECORDS - len(entries))
 
 

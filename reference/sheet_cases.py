@@ -20,28 +20,33 @@ from random import Random
 
 import known
 from conversions import ALL_KINDS, LONGEST, NESTED_DOWN
-from generate import SIZES, STRIDE_EDGES, damaged_sheet, valid_records
+from generate import SIZES, STRIDE_EDGES, damaged_sheet, long_case, long_records, valid_records
 from hostile import hostile_sheet
 from kept import kept_cases
 from known import END, span
+from long_calls import LONG_WRITES
 from pumdalin.answers import Refusal
-from pumdalin.records import BODY_LENGTH, MOST_RECORDS, SKIP_LOOP, Choice, encode_all, encode_form, two_bytes_each
+from pumdalin.records import MOST_RECORDS, Choice, encode_all, encode_form, two_bytes_each
 from sheet import RawRecord, raw, read, write
 from stored import answered, main
 from writer_cases import WRITER_CASES, WriterCase
 
 SEED = 2049
 # of each size
-VALID_SHEETS = 45
-DAMAGED_SHEETS = 150
-HOSTILE_SHEETS = 50
+VALID_SHEETS = {"small": 45, "middle": 45, "large": 15}
+DAMAGED_SHEETS = {"small": 150, "middle": 150, "large": 80}
+# of all lengths; of 60 to 132 records
+HOSTILE_SHEETS = 90
+RANDOM_LONG_SHEETS = 25
+# of up to 24 records; of 60 to 132
 RANDOM_WRITES = 180
+RANDOM_LONG_WRITES = 12
 # What a field is changed into, where it is not a cost.
 OTHER_VALUES = {"kind": [0, 1, 2, 6, 7, 255], "stride": STRIDE_EDGES}
 READER = 1
 WRITER = 2
-# No sheet has more bytes.
-LONGEST_SHEET = MOST_RECORDS * (1 + BODY_LENGTH[SKIP_LOOP])
+# The program has so much room for a buffer.
+MOST_BUFFER = 2048
 
 
 def entry_bytes(entry: RawRecord) -> bytes:
@@ -66,6 +71,7 @@ def reader_case(sheet: bytes) -> bytes:
 
 def writer_case(case: WriterCase) -> bytes:
     """What the writer is given, and the sheet that it writes or its refusal."""
+    assert len(case.entries) <= MOST_RECORDS and len(case.buffer) <= MOST_BUFFER, case.tells
     number, value, sheet = answered(write(case.entries, case.count, case.buffer))
     head = bytes([WRITER, number])
     head += two_bytes_each(len(sheet), len(case.entries), value, case.count, len(case.buffer))
@@ -93,40 +99,35 @@ def strides() -> list[bytes]:
 
 def random_sheets(random: Random) -> list[bytes]:
     made: list[bytes] = []
-    for size in SIZES.values():
-        made += [encode_all(valid_records(random, size)) for _ in range(VALID_SHEETS)]
-        made += [damaged_sheet(random, size) for _ in range(DAMAGED_SHEETS)]
-        made += [hostile_sheet(random) for _ in range(HOSTILE_SHEETS)]
-    return made
+    for name, size in SIZES.items():
+        made += [encode_all(valid_records(random, size)) for _ in range(VALID_SHEETS[name])]
+        made += [damaged_sheet(random, size) for _ in range(DAMAGED_SHEETS[name])]
+    made += [hostile_sheet(random) for _ in range(HOSTILE_SHEETS)]
+    return made + [long_case(random).sheet for _ in range(RANDOM_LONG_SHEETS)]
 
 
 def random_writes(random: Random) -> list[WriterCase]:
     """Records of valid sheets, some with one field changed, into buffers around their length."""
     made: list[WriterCase] = []
-    for _ in range(RANDOM_WRITES):
-        entries = [raw(record) for record in valid_records(random, SIZES["middle"])]
-        length = max(0, len(encode_entries(entries)) + random.randint(-2, 3))
+    given = [valid_records(random, SIZES["middle"]) for _ in range(RANDOM_WRITES)]
+    given += [long_records(random) for _ in range(RANDOM_LONG_WRITES)]
+    for records in given:
+        entries = [raw(record) for record in records[:MOST_RECORDS]]
+        length = max(0, len(encode_all(records)) + random.randint(-2, 3))
         if entries and random.random() < 0.4:
             at = random.randrange(len(entries))
             field = random.choice(["kind", "least", "most", "start", "step", "stride", "skip"])
             value = random.choice(OTHER_VALUES.get(field, [0, 1, 1001, 4095, 4096]))
             entries[at] = entries[at]._replace(**{field: value})
-        made.append(WriterCase("random", entries, len(entries), bytes(length)))
+        made.append(WriterCase("random", entries, len(records), bytes(length)))
     return made
-
-
-def encode_entries(entries: list[RawRecord]) -> bytes:
-    """The sheet of entries that the writer takes."""
-    result = write(entries, len(entries), bytes(LONGEST_SHEET))
-    assert not isinstance(result.answer, Refusal)
-    return result.buffer[:result.answer]
 
 
 def all_cases() -> bytes:
     random = Random(SEED)
     sheets = [case.sheet for case in kept_cases()] + [encode_all(records) for records in LONGEST]
     sheets += truncations() + kinds() + strides() + random_sheets(random)
-    writes = WRITER_CASES + random_writes(random)
+    writes = WRITER_CASES + [long.case for long in LONG_WRITES] + random_writes(random)
     return b"".join(map(reader_case, sheets)) + b"".join(map(writer_case, writes))
 
 

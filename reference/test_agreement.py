@@ -13,8 +13,10 @@ from agreement_cases import Expected, Trial, kept_trials, listing_cases, random_
 from agreement_checks import Difference, Tool, Unusable, check_listing, check_trials
 from asking import Ask, Outcome, program_at
 from calls import program_text
+from pumdalin.answers import Figures
 from questions import GUARD
 from reasons import LINES, read_reason
+from sheet import read_as_far
 from stand_in import FolderCase, Made, flipped, replies_to, shell_program
 
 EXAMPLES = Path(__file__).parent.parent / "examples" / "listings"
@@ -27,6 +29,11 @@ CALLS = 4
 @cache
 def trials() -> list[Trial]:
     return list(islice(random_trials(SEED), CASES))
+
+
+@cache
+def kept() -> list[Trial]:
+    return kept_trials()
 
 
 def answering(program: Callable[[bytes], bytes]) -> Ask:
@@ -92,7 +99,8 @@ class RandomCases(unittest.TestCase):
         with self.subTest(words):
             self.assertRegex(shown, words)
             self.assertTrue(shown.startswith(f"differs: seed {SEED}, case "))
-            self.assertIn("\nbudget ", shown)
+            # an input that is shorter than its header has no listing
+            self.assertRegex(shown, "\n(budget |# shorter than its header)")
 
     def test_wrong_figures(self) -> None:
         for block, position, words in [
@@ -153,10 +161,23 @@ class RandomReasons(unittest.TestCase):
         self.assertGreater(min(counts.values()), CASES)
 
 
+class RandomLengths(unittest.TestCase):
+    def test_long_sheets(self) -> None:
+        """Many random sheets have more than 64 records and are answered; some have more than 128, and are refused 4."""
+        answered = refused = 0
+        for trial in islice(random_trials(SEED), 10 * CASES):
+            figures = trial.calls[0]
+            records, refusal = read_as_far(figures.case.sheet)
+            answered += len(records) > 64 and isinstance(figures.answer, Figures)
+            refused += refusal is not None and refusal.number == 4
+        self.assertGreater(answered, CASES)
+        self.assertGreater(refused, CASES // 6)
+
+
 class ShownReplies(unittest.TestCase):
     def test_every_byte_shows(self) -> None:
         """A reply that is wrong in one byte, wherever it is, is shown in other words."""
-        calls = [call for trial in kept_trials() for call in trial.calls]
+        calls = [call for trial in kept() for call in trial.calls]
         shown_calls = [call for call in calls if "call '" in call.tells and len(call.reply()) < 300]
         self.assertGreater(len(shown_calls), 50)
         for call in shown_calls:
@@ -169,7 +190,7 @@ class ShownReplies(unittest.TestCase):
 class BoundText(unittest.TestCase):
     def compare(self, program: Callable[[bytes], bytes]) -> str:
         tool = Tool(RIGHT.library, answering(program))
-        return shown_by(check_trials, tool, kept_trials() + trials())
+        return shown_by(check_trials, tool, kept() + trials())
 
     def test_right(self) -> None:
         self.assertEqual(self.compare(program_text), "")

@@ -23,7 +23,7 @@ from example_calls import calls_file
 from example_readings import known_file, readings_file, telling_file
 from example_states import states_file
 from generate import SIZES, cases, parameters, valid_records
-from known import MARKED, OTHERS, TRIANGLE, UNIT, ZERO, Known, form, loop, span
+from known import TOO_MANY_TRIPS, MARKED, OTHERS, TRIANGLE, UNIT, ZERO, Known, form, loop, span
 from known_reasons import KnownReasons
 from nest import ceiling_refusal, loop_reports
 from pumdalin.answers import Figures, Refusal
@@ -54,7 +54,7 @@ class KnownSheets(unittest.TestCase):
             self.check(case)
 
     def test_others(self) -> None:
-        for case in OTHERS:
+        for case in OTHERS + TOO_MANY_TRIPS:
             self.check(case)
 
     def test_all_ways_agree(self) -> None:
@@ -218,7 +218,8 @@ class Writer(unittest.TestCase):
 
     def test_refusals(self) -> None:
         work, end = raw(UNIT), raw(End())
-        self.refused([work] * 65, 4, 0)
+        self.refused([work] * 129, 4, 0)
+        self.refused([work] * 128, 9, 0)
         self.refused([work, BLANK], 2, 5)
         self.refused([work, work._replace(most=COST_LIMIT + 1)], 3, 5)
         self.refused([work, end._replace(least=1)], 3, 5)
@@ -260,10 +261,10 @@ class Calls(unittest.TestCase):
 
     def test_text_of_long_input(self) -> None:
         header = bytes(8) + (100).to_bytes(4, "little")
-        longest = encode_all([loop(Form(), Form(-1), skip=1), End()] * 32)
-        largest = encode_all([loop(Form(), Form(-1), skip=1)] * 64)
+        longest = encode_all([loop(Form(), Form(-1), skip=1), End()] * 64)
+        largest = encode_all([loop(Form(), Form(-1), skip=1)] * 128)
         for sheet in (longest + bytes(2000), largest + b"\x03" * 70):
-            self.assertEqual(program_text(header + sheet), program_text((header + sheet)[:1741]))
+            self.assertEqual(program_text(header + sheet), program_text((header + sheet)[:3469]))
 
 
 class TextCalls(unittest.TestCase):
@@ -313,14 +314,15 @@ class RandomSheets(unittest.TestCase):
         for name, size in SIZES.items():
             random = Random(f"valid {name}")
             gone_over = 0
-            for _ in range(SHEETS):
+            count = SHEETS // 2 if name == "large" else SHEETS
+            for _ in range(count):
                 records, values = valid_records(random, size), parameters(random)
                 consistency.check_round_trip(records)
                 consistency.check_facts(records, values)
                 if ceiling_refusal(records, values) is None:
                     consistency.check_ceilings(records, values, random)
                     gone_over += consistency.check_stages(records, values, TRIPS)
-            self.assertGreater(gone_over, SHEETS // 4)
+            self.assertGreater(gone_over, count // 4)
 
     def test_runs(self) -> None:
         random = Random("runs")

@@ -12,17 +12,18 @@ lent. The text follows, where the call stores it.
 from itertools import islice
 
 from agreement_calls import TextCall
-from agreement_cases import kept_texts, random_trials
+from agreement_cases import MOST_INPUT, Expected, kept_texts, random_trials
 from calls import text_called
+from generate import Case
+from long_sheets import LONG_SHEETS
 from pumdalin.records import two_bytes_each
 from stored import main
 from text_limits import TEXT_LENGTH
 
 SEED = 2053
-RANDOM_CASES = 500
+RANDOM_CASES = 450
 TEXTS = 6
-# The program has so much room for an input, for a buffer and for an area.
-MOST_INPUT = 4096
+# The program has so much room for a buffer and for an area.
 MOST_BUFFER = TEXT_LENGTH
 MOST_AREA = 32
 
@@ -41,8 +42,17 @@ def has_room(call: TextCall) -> bool:
     return len(call.data) <= MOST_INPUT and len(call.buffer) <= MOST_BUFFER and len(call.area) <= MOST_AREA
 
 
+def long_texts() -> list[TextCall]:
+    """The texts of the long sheets."""
+    found: list[TextCall] = []
+    for line in LONG_SHEETS:
+        case = Case("long", line.sheet, line.parameters, line.budget)
+        found.append(Expected(line.tells, case, line.answer).text_call())
+    return found
+
+
 def all_cases() -> bytes:
-    calls = kept_texts() + [trial.text for trial in islice(random_trials(SEED), RANDOM_CASES)]
+    calls = kept_texts() + long_texts() + [trial.text for trial in islice(random_trials(SEED), RANDOM_CASES)]
     return b"".join(text_case(call) for call in calls)
 
 

@@ -95,7 +95,8 @@ def walked_records(random: Random, parameters: Parameters) -> list[Record]:
     """
     aim = random.choice(AIMS)
     while True:
-        records: list[Record] = [work(random)] * random.choice([0, 0, 1, 20])
+        # after 64 works the nests stand beyond the limit of records before document 02, C-19
+        records: list[Record] = [work(random)] * random.choice([0, 0, 0, 1, 20, 64])
         for _ in range(random.choice([1, 1, 2])):
             records += nest(random, aim, [], parameters)
         if len(records) <= MOST_RECORDS:

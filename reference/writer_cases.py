@@ -43,11 +43,11 @@ COUNTS = [
     WriterCase("count 0, an entry of no kind past it", [RawRecord(kind=9)], 0, b"\x07"),
     WriterCase("count 1, entries past it are not looked at",
                [WORK_ENTRY, RawRecord(kind=9, least=3), CHOICE_ENTRY], 1, bytes(range(5, 11))),
-    case("63 records", [CHOICE_ENTRY, NEXT_ENTRY, END_ENTRY] * 21, 64),
-    case("64 records", [CHOICE_ENTRY, END_ENTRY] * 32, 64),
-    case("64 records, a byte short", [CHOICE_ENTRY, END_ENTRY] * 32, 63),
-    WriterCase("count 65", [CHOICE_ENTRY, END_ENTRY] * 32, 65, b"\x01\x02"),
-    WriterCase("4 before 2", [RawRecord(kind=9)], 65, b""),
+    case("127 records", [CHOICE_ENTRY, NEXT_ENTRY, END_ENTRY] + [CHOICE_ENTRY, END_ENTRY] * 62, 128),
+    case("128 records", [CHOICE_ENTRY, END_ENTRY] * 64, 128),
+    case("128 records, a byte short", [CHOICE_ENTRY, END_ENTRY] * 64, 127),
+    WriterCase("count 129", [CHOICE_ENTRY, END_ENTRY] * 64, 129, b"\x01\x02"),
+    WriterCase("4 before 2", [RawRecord(kind=9)], 129, b""),
 ]
 
 BUFFERS = [

@@ -13,7 +13,7 @@ pub const NEXT_ARM: u8 = 5;
 /// In a sheet alone: a record of it is a loop with a skip.
 const SKIP_LOOP: u8 = 6;
 
-const MOST_RECORDS: usize = 64;
+const MOST_RECORDS: usize = 128;
 pub const MOST_OPEN: usize = 8;
 pub const DEEPEST: usize = 4;
 /// A loop's body before its skip.

@@ -133,6 +133,25 @@ class Answers(CommandTest):
         self.check(run("--bytes", sheet, "--parameters", "100"), 0, said)
         self.check(run("--bytes", "--parameters", "100", given=sheet.read_bytes()), 0, said)
 
+    def test_long_sheets(self) -> None:
+        """Up to 128 records; before sheets could be so long, the 65th was refused."""
+        for count in (64, 65, 127, 128):
+            said = f"best {count} worst {2 * count} visits 0\nparameters 0 0 0 0 budget 1000000\n"
+            self.check(run(given=b"work 1..2\n" * count), 0, said)
+            self.check(run("--bytes", given=b"\x01\x01\x00\x02\x00" * count), 0, said)
+
+    def test_most_loops(self) -> None:
+        """64 in a sheet of 128 records, each with its lines: half of them are walked."""
+        nest = "loop i 0..1\nloop j 0..i by 2\nend\nend\n"
+        said = json.loads(run("--json", given=(nest * 32).encode()).stdout)
+        self.assertEqual(said["answer"], {"least": 0, "most": 0, "visits": 32 * 4})
+        outer, inner = said["loops"][::2], said["loops"][1::2]
+        self.assertEqual([loop["offset"] for loop in outer], [52 * number for number in range(32)])
+        self.assertEqual([loop["reason"]["printed"] for loop in outer],
+                         [f"loop {52 * number + 25} is uneven in loop {52 * number}" for number in range(32)])
+        self.assertEqual([(loop["offset"], loop["closed"]) for loop in inner],
+                         [(52 * number + 25, True) for number in range(32)])
+
     def test_every_listing(self) -> None:
         """Every expectation of every listing of the repository holds."""
         listings = sorted(LISTINGS.rglob("*.listing"))
@@ -335,10 +354,12 @@ class AsJson(CommandTest):
         self.assertEqual(said["loops"], [{"offset": 0, "closed": True, "ceiling": 10, "reason": None}])
 
     def test_figures_that_doubles_do_not_hold(self) -> None:
+        """Also those of the longest body of the deepest nest, which are above 2^62."""
         loops = "".join(f"loop {name} 0..2047\n" for name in "ijkl")
-        ended = run("--json", given=(loops + "work 4095\n" * 3 + "end\n" * 4).encode())
-        self.assertEqual(json.loads(ended.stdout)["answer"]["most"], 3 * 4095 * 2048 ** 4)
-        self.assertIn(b"keeps numbers as doubles", ended.stderr)
+        for works in (3, 120):
+            ended = run("--json", given=(loops + "work 4095\n" * works + "end\n" * 4).encode())
+            self.assertEqual(json.loads(ended.stdout)["answer"]["most"], works * 4095 * 2048 ** 4)
+            self.assertIn(b"keeps numbers as doubles", ended.stderr)
 
 
 class Refusals(CommandTest):
@@ -349,8 +370,8 @@ class Refusals(CommandTest):
         self.check_listing("work 1\nwork 5000\n", "standard input:2: refused 3 at 5: a field of this record",
                            "whoever wrote the sheet has to change the field", "limit: least <= most <= 4,095",
                            "hint: column 6: the least is 5000")
-        self.check_listing("work 1\n" * 65, ":65: refused 4 at 320: the sheet has more than 64 records", "split the sheet",
-                           "limit: a sheet has at most 64 records")
+        self.check_listing("work 1\n" * 129, ":129: refused 4 at 640: the sheet has more than 128 records", "split the sheet",
+                           "limit: a sheet has at most 128 records")
         self.check_listing("\n\nend\n", ":3: refused 5 at 0: this record may not stand here", "change the nesting", "limit: ",
                            "hint: nothing is open that this could end")
         self.check_listing("choice\nloop i 0..9\nwork 1\nend\n", ":5: refused 5 at 32: a loop or a choice is still open",
@@ -365,7 +386,7 @@ class Refusals(CommandTest):
             b"\x01\x03\x00": ("refused 1 at 0: the sheet ends inside", "missing bytes", "hint: the bytes there are 01 03 00"),
             b"\x04\x03\x09": ("refused 2 at 2: no kind", "limit: kinds are 1 to 6", "hint: the byte there is 9"),
             b"\x01\x05\x00\x03\x00": ("refused 3 at 0: a field", "hint: the record there is 'work 5..3'"),
-            b"\x04\x03" * 32 + b"\x03": ("refused 4 at 64: the sheet has more than 64",),
+            b"\x04\x03" * 64 + b"\x03": ("refused 4 at 128: the sheet has more than 128",),
             b"\x05": ("refused 5 at 0: this record", "hint: the record there is 'or'"),
             b"\x04": ("refused 5 at 1: a loop or a choice is still open",),
         }.items():

@@ -25,6 +25,10 @@ from tests.running import COMMAND, ROOT, CommandTest, run
 
 FORMAT = ROOT / "docs" / "FORMAT.md"
 HEADER = ROOT / "include" / "pumdalin.h"
+WRAPPER = ROOT / "examples" / "pumdalin.rs"
+MANUAL = ROOT / "command" / "pumdalin.1"
+BOUND_MANUAL = ROOT / "command" / "bound.1"
+README = ROOT / "README.md"
 LISTINGS = ROOT / "examples" / "listings"
 DISPENSE = LISTINGS / "firmware" / "dispense.listing"
 
@@ -126,7 +130,7 @@ class Calls(unittest.TestCase):
 
 
 class Documents(unittest.TestCase):
-    """What docs/FORMAT.md draws of a converted sheet, and the longest sheet."""
+    """What docs/FORMAT.md draws of a converted sheet; the most records and the longest sheet, wherever they are named."""
 
     ROW = re.compile(r"^│ +(\d+) │ ((?:[0-9A-F]{2} )+) *│ ([^:│]+): ([^│]*?) +│$", re.MULTILINE)
 
@@ -148,8 +152,18 @@ class Documents(unittest.TestCase):
     def test_longest_sheet(self) -> None:
         longest = MOST_RECORDS * (1 + max(BODY_LENGTH.values()))
         self.assertIn(f"PUMDALIN_SHEET_LENGTH = {longest},", HEADER.read_text())
-        self.assertIn(f"= {longest:,} bytes", FORMAT.read_text())
-        self.assertIn(f"At most {12 + longest + 1:,} bytes matter", FORMAT.read_text())
+        self.assertIn(f"SHEET_LENGTH: usize = {longest};", WRAPPER.read_text())
+        self.assertIn(f"{MOST_RECORDS} × {1 + max(BODY_LENGTH.values())} = {longest:,} bytes", FORMAT.read_text())
+        self.assertIn(f"`PUMDALIN_SHEET_LENGTH`, {longest:,} bytes", README.read_text())
+        matter = 12 + longest + 1
+        self.assertIn(f"At most {matter:,} bytes matter", FORMAT.read_text())
+        self.assertIn(f"at most {matter:,} bytes in all", BOUND_MANUAL.read_text())
+
+    def test_most_records(self) -> None:
+        self.assertIn(f'"the sheet has more than {MOST_RECORDS} records"', HEADER.read_text())
+        self.assertIn(f"| records | {MOST_RECORDS} |", FORMAT.read_text())
+        self.assertIn(f"\nmore than {MOST_RECORDS} records\n", MANUAL.read_text())
+        self.assertIn(f"A sheet has at most {MOST_RECORDS} records", README.read_text())
 
 
 class Converting(CommandTest):
@@ -211,9 +225,9 @@ class Converting(CommandTest):
 
     def test_most_loops(self) -> None:
         """All loops that a sheet can have."""
-        sheet = sheet_of("loop i 0..1 start 4095\nend\n" * 32)
+        sheet = sheet_of("loop i 0..1 start 4095\nend\n" * 64)
         made = run("convert", "--bytes", "--to", "6", given=sheet)
-        self.assertEqual((made.returncode, len(made.stdout)), (0, 32 * 28))
+        self.assertEqual((made.returncode, len(made.stdout)), (0, 64 * 28))
         self.assertEqual(run("convert", "--bytes", "--to", "2", given=made.stdout).stdout, sheet)
 
 
@@ -244,7 +258,7 @@ class Refusals(CommandTest):
         """1 to 5 come before 10, wherever they stand."""
         for further, said in {
             "work 5..3\n": "refused 3 at 67", "end\n": "refused 5 at 67", "loop i 0..1\n": "refused 5 at 92",
-            "work 1\n" * 56: "refused 4 at 342",
+            "work 1\n" * 120: "refused 4 at 662",
         }.items():
             self.check(run("convert", "--to", "2", given=(DIFFERENT + further).encode()), 1, "", said, "limit: ")
 

@@ -129,7 +129,7 @@ class LeftToTheReaderOfSheets(unittest.TestCase):
         }.items():
             with self.subTest(written):
                 self.assertEqual(read_listing(written).records, records)
-        self.assertEqual(len(read_listing("work 1\n" * 65).records), 65)
+        self.assertEqual(len(read_listing("work 1\n" * 129).records), 129)
         self.assertEqual(len(read_listing("".join(f"loop {name} 0..1\n" for name in "ijklmm")).records), 6)
 
     def hint(self, written: str, number: int, place: int) -> str:

@@ -9,9 +9,10 @@ ghost use lib.ListN.{length, take, drop};
 ghost use Rattle.meaning.specs.Limits.{sheetLengthLimit};
 ghost use Rattle.meaning.specs.Record as M;
 ghost use Rattle.meaning.specs.Record.{sheetBytes};
-ghost use Rattle.meaning.specs.Reader.{ok};
+ghost use Rattle.meaning.specs.Reader.{ok, andThen};
+ghost use Rattle.meaning.specs.EarlierReaders.{shortRead, UnlessTooLong};
 ghost use Rattle.meaning.specs.Converter as C;
-ghost use Rattle.meaning.specs.Converter.{withSkips, withoutSkips};
+ghost use Rattle.meaning.specs.Converter.{addSkips, dropSkips, withSkips, withoutSkips};
 ghost use Rattle.meaning.specs.Moved.{SameSheet, Turned};
 ghost use Rattle.sheet.specs.Sheets.{recordsOf};
 ghost use Rattle.writer.specs.Answers.{writeResult};
@@ -95,6 +96,8 @@ pub fn with_skips(sheet: &[u8], buffer: &mut [u8]) -> WriteAnswer
     ensures same { λ r. ⌜ ((n : ℕ) → writeResult r ≡ ok n → SameSheet (now (sheet .entry)) (take n (now (buffer .exit)))) ⌝ }
     ensures turned { λ r. ⌜ ((n : ℕ) → writeResult r ≡ ok n →
         Turned true withoutSkips (now (sheet .entry)) (take n (now (buffer .exit)))) ⌝ }
+    ensures before { λ _. ⌜ UnlessTooLong (now (sheet .entry))
+        (withSkips (now (sheet .entry)) (now (buffer .entry)) ≡ C.convert (andThen (shortRead (now (sheet .entry))) addSkips) (now (buffer .entry))) ⌝ }
 {
     store(sheet, true, buffer)
 }
@@ -106,6 +109,8 @@ pub fn without_skips(sheet: &[u8], buffer: &mut [u8]) -> WriteAnswer
     ensures same { λ r. ⌜ ((n : ℕ) → writeResult r ≡ ok n → SameSheet (now (sheet .entry)) (take n (now (buffer .exit)))) ⌝ }
     ensures turned { λ r. ⌜ ((n : ℕ) → writeResult r ≡ ok n →
         Turned false withSkips (now (sheet .entry)) (take n (now (buffer .exit)))) ⌝ }
+    ensures before { λ _. ⌜ UnlessTooLong (now (sheet .entry))
+        (withoutSkips (now (sheet .entry)) (now (buffer .entry)) ≡ C.convert (andThen (shortRead (now (sheet .entry))) (dropSkips 0)) (now (buffer .entry))) ⌝ }
 {
     store(sheet, false, buffer)
 }

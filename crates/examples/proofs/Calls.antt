@@ -49,16 +49,16 @@ pub writer-1 :
     × (write (raw 9 0 0 0 0 (pos 0) noForm noForm 0 ∷ []) 0 (hex "07") ≡ written 0 (hex "07"))
     -- count 1, entries past it are not looked at
     × (write (aWork ∷ raw 9 3 0 0 0 (pos 0) noForm noForm 0 ∷ aChoice ∷ []) 1 (hex "05060708090a") ≡ written 5 (hex "01010002000a"))
-    -- 63 records
-    × (write (aChoice ∷ aNextArm ∷ anEnd ∷ aChoice ∷ aNextArm ∷ anEnd ∷ aChoice ∷ aNextArm ∷ anEnd ∷ aChoice ∷ aNextArm ∷ anEnd ∷ aChoice ∷ aNextArm ∷ anEnd ∷ aChoice ∷ aNextArm ∷ anEnd ∷ aChoice ∷ aNextArm ∷ anEnd ∷ aChoice ∷ aNextArm ∷ anEnd ∷ aChoice ∷ aNextArm ∷ anEnd ∷ aChoice ∷ aNextArm ∷ anEnd ∷ aChoice ∷ aNextArm ∷ anEnd ∷ aChoice ∷ aNextArm ∷ anEnd ∷ aChoice ∷ aNextArm ∷ anEnd ∷ aChoice ∷ aNextArm ∷ anEnd ∷ aChoice ∷ aNextArm ∷ anEnd ∷ aChoice ∷ aNextArm ∷ anEnd ∷ aChoice ∷ aNextArm ∷ anEnd ∷ aChoice ∷ aNextArm ∷ anEnd ∷ aChoice ∷ aNextArm ∷ anEnd ∷ aChoice ∷ aNextArm ∷ anEnd ∷ aChoice ∷ aNextArm ∷ anEnd ∷ []) 63 (hex "c9cacbcccdcecfd0d1d2d3d4d5d6d7d8d9dadbdcdddedfe0e1e2e3e4e5e6e7e8e9eaebecedeeeff0f1f2f3f4f5f6f7f8f9fac9cacbcccdcecfd0d1d2d3d4d5d6") ≡ written 63 (hex "040503040503040503040503040503040503040503040503040503040503040503040503040503040503040503040503040503040503040503040503040503d6"))
-    -- 64 records
-    × (write (aChoice ∷ anEnd ∷ aChoice ∷ anEnd ∷ aChoice ∷ anEnd ∷ aChoice ∷ anEnd ∷ aChoice ∷ anEnd ∷ aChoice ∷ anEnd ∷ aChoice ∷ anEnd ∷ aChoice ∷ anEnd ∷ aChoice ∷ anEnd ∷ aChoice ∷ anEnd ∷ aChoice ∷ anEnd ∷ aChoice ∷ anEnd ∷ aChoice ∷ anEnd ∷ aChoice ∷ anEnd ∷ aChoice ∷ anEnd ∷ aChoice ∷ anEnd ∷ aChoice ∷ anEnd ∷ aChoice ∷ anEnd ∷ aChoice ∷ anEnd ∷ aChoice ∷ anEnd ∷ aChoice ∷ anEnd ∷ aChoice ∷ anEnd ∷ aChoice ∷ anEnd ∷ aChoice ∷ anEnd ∷ aChoice ∷ anEnd ∷ aChoice ∷ anEnd ∷ aChoice ∷ anEnd ∷ aChoice ∷ anEnd ∷ aChoice ∷ anEnd ∷ aChoice ∷ anEnd ∷ aChoice ∷ anEnd ∷ aChoice ∷ anEnd ∷ []) 64 (hex "c9cacbcccdcecfd0d1d2d3d4d5d6d7d8d9dadbdcdddedfe0e1e2e3e4e5e6e7e8e9eaebecedeeeff0f1f2f3f4f5f6f7f8f9fac9cacbcccdcecfd0d1d2d3d4d5d6") ≡ written 64 (hex "04030403040304030403040304030403040304030403040304030403040304030403040304030403040304030403040304030403040304030403040304030403"))
-    -- 64 records, a byte short
-    × (write (aChoice ∷ anEnd ∷ aChoice ∷ anEnd ∷ aChoice ∷ anEnd ∷ aChoice ∷ anEnd ∷ aChoice ∷ anEnd ∷ aChoice ∷ anEnd ∷ aChoice ∷ anEnd ∷ aChoice ∷ anEnd ∷ aChoice ∷ anEnd ∷ aChoice ∷ anEnd ∷ aChoice ∷ anEnd ∷ aChoice ∷ anEnd ∷ aChoice ∷ anEnd ∷ aChoice ∷ anEnd ∷ aChoice ∷ anEnd ∷ aChoice ∷ anEnd ∷ aChoice ∷ anEnd ∷ aChoice ∷ anEnd ∷ aChoice ∷ anEnd ∷ aChoice ∷ anEnd ∷ aChoice ∷ anEnd ∷ aChoice ∷ anEnd ∷ aChoice ∷ anEnd ∷ aChoice ∷ anEnd ∷ aChoice ∷ anEnd ∷ aChoice ∷ anEnd ∷ aChoice ∷ anEnd ∷ aChoice ∷ anEnd ∷ aChoice ∷ anEnd ∷ aChoice ∷ anEnd ∷ aChoice ∷ anEnd ∷ aChoice ∷ anEnd ∷ []) 64 (hex "c9cacbcccdcecfd0d1d2d3d4d5d6d7d8d9dadbdcdddedfe0e1e2e3e4e5e6e7e8e9eaebecedeeeff0f1f2f3f4f5f6f7f8f9fac9cacbcccdcecfd0d1d2d3d4d5") ≡ notWritten 9 0 (hex "c9cacbcccdcecfd0d1d2d3d4d5d6d7d8d9dadbdcdddedfe0e1e2e3e4e5e6e7e8e9eaebecedeeeff0f1f2f3f4f5f6f7f8f9fac9cacbcccdcecfd0d1d2d3d4d5"))
-    -- count 65
-    × (write (aChoice ∷ anEnd ∷ aChoice ∷ anEnd ∷ aChoice ∷ anEnd ∷ aChoice ∷ anEnd ∷ aChoice ∷ anEnd ∷ aChoice ∷ anEnd ∷ aChoice ∷ anEnd ∷ aChoice ∷ anEnd ∷ aChoice ∷ anEnd ∷ aChoice ∷ anEnd ∷ aChoice ∷ anEnd ∷ aChoice ∷ anEnd ∷ aChoice ∷ anEnd ∷ aChoice ∷ anEnd ∷ aChoice ∷ anEnd ∷ aChoice ∷ anEnd ∷ aChoice ∷ anEnd ∷ aChoice ∷ anEnd ∷ aChoice ∷ anEnd ∷ aChoice ∷ anEnd ∷ aChoice ∷ anEnd ∷ aChoice ∷ anEnd ∷ aChoice ∷ anEnd ∷ aChoice ∷ anEnd ∷ aChoice ∷ anEnd ∷ aChoice ∷ anEnd ∷ aChoice ∷ anEnd ∷ aChoice ∷ anEnd ∷ aChoice ∷ anEnd ∷ aChoice ∷ anEnd ∷ aChoice ∷ anEnd ∷ aChoice ∷ anEnd ∷ []) 65 (hex "0102") ≡ notWritten 4 0 (hex "0102"))
+    -- 127 records
+    × (write (aChoice ∷ aNextArm ∷ anEnd ∷ aChoice ∷ anEnd ∷ aChoice ∷ anEnd ∷ aChoice ∷ anEnd ∷ aChoice ∷ anEnd ∷ aChoice ∷ anEnd ∷ aChoice ∷ anEnd ∷ aChoice ∷ anEnd ∷ aChoice ∷ anEnd ∷ aChoice ∷ anEnd ∷ aChoice ∷ anEnd ∷ aChoice ∷ anEnd ∷ aChoice ∷ anEnd ∷ aChoice ∷ anEnd ∷ aChoice ∷ anEnd ∷ aChoice ∷ anEnd ∷ aChoice ∷ anEnd ∷ aChoice ∷ anEnd ∷ aChoice ∷ anEnd ∷ aChoice ∷ anEnd ∷ aChoice ∷ anEnd ∷ aChoice ∷ anEnd ∷ aChoice ∷ anEnd ∷ aChoice ∷ anEnd ∷ aChoice ∷ anEnd ∷ aChoice ∷ anEnd ∷ aChoice ∷ anEnd ∷ aChoice ∷ anEnd ∷ aChoice ∷ anEnd ∷ aChoice ∷ anEnd ∷ aChoice ∷ anEnd ∷ aChoice ∷ anEnd ∷ aChoice ∷ anEnd ∷ aChoice ∷ anEnd ∷ aChoice ∷ anEnd ∷ aChoice ∷ anEnd ∷ aChoice ∷ anEnd ∷ aChoice ∷ anEnd ∷ aChoice ∷ anEnd ∷ aChoice ∷ anEnd ∷ aChoice ∷ anEnd ∷ aChoice ∷ anEnd ∷ aChoice ∷ anEnd ∷ aChoice ∷ anEnd ∷ aChoice ∷ anEnd ∷ aChoice ∷ anEnd ∷ aChoice ∷ anEnd ∷ aChoice ∷ anEnd ∷ aChoice ∷ anEnd ∷ aChoice ∷ anEnd ∷ aChoice ∷ anEnd ∷ aChoice ∷ anEnd ∷ aChoice ∷ anEnd ∷ aChoice ∷ anEnd ∷ aChoice ∷ anEnd ∷ aChoice ∷ anEnd ∷ aChoice ∷ anEnd ∷ aChoice ∷ anEnd ∷ aChoice ∷ anEnd ∷ aChoice ∷ anEnd ∷ aChoice ∷ anEnd ∷ aChoice ∷ anEnd ∷ aChoice ∷ anEnd ∷ []) 127 (hex "c9cacbcccdcecfd0d1d2d3d4d5d6d7d8d9dadbdcdddedfe0e1e2e3e4e5e6e7e8e9eaebecedeeeff0f1f2f3f4f5f6f7f8f9fac9cacbcccdcecfd0d1d2d3d4d5d6d7d8d9dadbdcdddedfe0e1e2e3e4e5e6e7e8e9eaebecedeeeff0f1f2f3f4f5f6f7f8f9fac9cacbcccdcecfd0d1d2d3d4d5d6d7d8d9dadbdcdddedfe0e1e2e3e4") ≡ written 127 (hex "04050304030403040304030403040304030403040304030403040304030403040304030403040304030403040304030403040304030403040304030403040304030403040304030403040304030403040304030403040304030403040304030403040304030403040304030403040304030403040304030403040304030403e4"))
+    -- 128 records
+    × (write (aChoice ∷ anEnd ∷ aChoice ∷ anEnd ∷ aChoice ∷ anEnd ∷ aChoice ∷ anEnd ∷ aChoice ∷ anEnd ∷ aChoice ∷ anEnd ∷ aChoice ∷ anEnd ∷ aChoice ∷ anEnd ∷ aChoice ∷ anEnd ∷ aChoice ∷ anEnd ∷ aChoice ∷ anEnd ∷ aChoice ∷ anEnd ∷ aChoice ∷ anEnd ∷ aChoice ∷ anEnd ∷ aChoice ∷ anEnd ∷ aChoice ∷ anEnd ∷ aChoice ∷ anEnd ∷ aChoice ∷ anEnd ∷ aChoice ∷ anEnd ∷ aChoice ∷ anEnd ∷ aChoice ∷ anEnd ∷ aChoice ∷ anEnd ∷ aChoice ∷ anEnd ∷ aChoice ∷ anEnd ∷ aChoice ∷ anEnd ∷ aChoice ∷ anEnd ∷ aChoice ∷ anEnd ∷ aChoice ∷ anEnd ∷ aChoice ∷ anEnd ∷ aChoice ∷ anEnd ∷ aChoice ∷ anEnd ∷ aChoice ∷ anEnd ∷ aChoice ∷ anEnd ∷ aChoice ∷ anEnd ∷ aChoice ∷ anEnd ∷ aChoice ∷ anEnd ∷ aChoice ∷ anEnd ∷ aChoice ∷ anEnd ∷ aChoice ∷ anEnd ∷ aChoice ∷ anEnd ∷ aChoice ∷ anEnd ∷ aChoice ∷ anEnd ∷ aChoice ∷ anEnd ∷ aChoice ∷ anEnd ∷ aChoice ∷ anEnd ∷ aChoice ∷ anEnd ∷ aChoice ∷ anEnd ∷ aChoice ∷ anEnd ∷ aChoice ∷ anEnd ∷ aChoice ∷ anEnd ∷ aChoice ∷ anEnd ∷ aChoice ∷ anEnd ∷ aChoice ∷ anEnd ∷ aChoice ∷ anEnd ∷ aChoice ∷ anEnd ∷ aChoice ∷ anEnd ∷ aChoice ∷ anEnd ∷ aChoice ∷ anEnd ∷ aChoice ∷ anEnd ∷ aChoice ∷ anEnd ∷ aChoice ∷ anEnd ∷ aChoice ∷ anEnd ∷ aChoice ∷ anEnd ∷ aChoice ∷ anEnd ∷ []) 128 (hex "c9cacbcccdcecfd0d1d2d3d4d5d6d7d8d9dadbdcdddedfe0e1e2e3e4e5e6e7e8e9eaebecedeeeff0f1f2f3f4f5f6f7f8f9fac9cacbcccdcecfd0d1d2d3d4d5d6d7d8d9dadbdcdddedfe0e1e2e3e4e5e6e7e8e9eaebecedeeeff0f1f2f3f4f5f6f7f8f9fac9cacbcccdcecfd0d1d2d3d4d5d6d7d8d9dadbdcdddedfe0e1e2e3e4") ≡ written 128 (hex "0403040304030403040304030403040304030403040304030403040304030403040304030403040304030403040304030403040304030403040304030403040304030403040304030403040304030403040304030403040304030403040304030403040304030403040304030403040304030403040304030403040304030403"))
+    -- 128 records, a byte short
+    × (write (aChoice ∷ anEnd ∷ aChoice ∷ anEnd ∷ aChoice ∷ anEnd ∷ aChoice ∷ anEnd ∷ aChoice ∷ anEnd ∷ aChoice ∷ anEnd ∷ aChoice ∷ anEnd ∷ aChoice ∷ anEnd ∷ aChoice ∷ anEnd ∷ aChoice ∷ anEnd ∷ aChoice ∷ anEnd ∷ aChoice ∷ anEnd ∷ aChoice ∷ anEnd ∷ aChoice ∷ anEnd ∷ aChoice ∷ anEnd ∷ aChoice ∷ anEnd ∷ aChoice ∷ anEnd ∷ aChoice ∷ anEnd ∷ aChoice ∷ anEnd ∷ aChoice ∷ anEnd ∷ aChoice ∷ anEnd ∷ aChoice ∷ anEnd ∷ aChoice ∷ anEnd ∷ aChoice ∷ anEnd ∷ aChoice ∷ anEnd ∷ aChoice ∷ anEnd ∷ aChoice ∷ anEnd ∷ aChoice ∷ anEnd ∷ aChoice ∷ anEnd ∷ aChoice ∷ anEnd ∷ aChoice ∷ anEnd ∷ aChoice ∷ anEnd ∷ aChoice ∷ anEnd ∷ aChoice ∷ anEnd ∷ aChoice ∷ anEnd ∷ aChoice ∷ anEnd ∷ aChoice ∷ anEnd ∷ aChoice ∷ anEnd ∷ aChoice ∷ anEnd ∷ aChoice ∷ anEnd ∷ aChoice ∷ anEnd ∷ aChoice ∷ anEnd ∷ aChoice ∷ anEnd ∷ aChoice ∷ anEnd ∷ aChoice ∷ anEnd ∷ aChoice ∷ anEnd ∷ aChoice ∷ anEnd ∷ aChoice ∷ anEnd ∷ aChoice ∷ anEnd ∷ aChoice ∷ anEnd ∷ aChoice ∷ anEnd ∷ aChoice ∷ anEnd ∷ aChoice ∷ anEnd ∷ aChoice ∷ anEnd ∷ aChoice ∷ anEnd ∷ aChoice ∷ anEnd ∷ aChoice ∷ anEnd ∷ aChoice ∷ anEnd ∷ aChoice ∷ anEnd ∷ aChoice ∷ anEnd ∷ aChoice ∷ anEnd ∷ aChoice ∷ anEnd ∷ aChoice ∷ anEnd ∷ aChoice ∷ anEnd ∷ []) 128 (hex "c9cacbcccdcecfd0d1d2d3d4d5d6d7d8d9dadbdcdddedfe0e1e2e3e4e5e6e7e8e9eaebecedeeeff0f1f2f3f4f5f6f7f8f9fac9cacbcccdcecfd0d1d2d3d4d5d6d7d8d9dadbdcdddedfe0e1e2e3e4e5e6e7e8e9eaebecedeeeff0f1f2f3f4f5f6f7f8f9fac9cacbcccdcecfd0d1d2d3d4d5d6d7d8d9dadbdcdddedfe0e1e2e3") ≡ notWritten 9 0 (hex "c9cacbcccdcecfd0d1d2d3d4d5d6d7d8d9dadbdcdddedfe0e1e2e3e4e5e6e7e8e9eaebecedeeeff0f1f2f3f4f5f6f7f8f9fac9cacbcccdcecfd0d1d2d3d4d5d6d7d8d9dadbdcdddedfe0e1e2e3e4e5e6e7e8e9eaebecedeeeff0f1f2f3f4f5f6f7f8f9fac9cacbcccdcecfd0d1d2d3d4d5d6d7d8d9dadbdcdddedfe0e1e2e3"))
+    -- count 129
+    × (write (aChoice ∷ anEnd ∷ aChoice ∷ anEnd ∷ aChoice ∷ anEnd ∷ aChoice ∷ anEnd ∷ aChoice ∷ anEnd ∷ aChoice ∷ anEnd ∷ aChoice ∷ anEnd ∷ aChoice ∷ anEnd ∷ aChoice ∷ anEnd ∷ aChoice ∷ anEnd ∷ aChoice ∷ anEnd ∷ aChoice ∷ anEnd ∷ aChoice ∷ anEnd ∷ aChoice ∷ anEnd ∷ aChoice ∷ anEnd ∷ aChoice ∷ anEnd ∷ aChoice ∷ anEnd ∷ aChoice ∷ anEnd ∷ aChoice ∷ anEnd ∷ aChoice ∷ anEnd ∷ aChoice ∷ anEnd ∷ aChoice ∷ anEnd ∷ aChoice ∷ anEnd ∷ aChoice ∷ anEnd ∷ aChoice ∷ anEnd ∷ aChoice ∷ anEnd ∷ aChoice ∷ anEnd ∷ aChoice ∷ anEnd ∷ aChoice ∷ anEnd ∷ aChoice ∷ anEnd ∷ aChoice ∷ anEnd ∷ aChoice ∷ anEnd ∷ aChoice ∷ anEnd ∷ aChoice ∷ anEnd ∷ aChoice ∷ anEnd ∷ aChoice ∷ anEnd ∷ aChoice ∷ anEnd ∷ aChoice ∷ anEnd ∷ aChoice ∷ anEnd ∷ aChoice ∷ anEnd ∷ aChoice ∷ anEnd ∷ aChoice ∷ anEnd ∷ aChoice ∷ anEnd ∷ aChoice ∷ anEnd ∷ aChoice ∷ anEnd ∷ aChoice ∷ anEnd ∷ aChoice ∷ anEnd ∷ aChoice ∷ anEnd ∷ aChoice ∷ anEnd ∷ aChoice ∷ anEnd ∷ aChoice ∷ anEnd ∷ aChoice ∷ anEnd ∷ aChoice ∷ anEnd ∷ aChoice ∷ anEnd ∷ aChoice ∷ anEnd ∷ aChoice ∷ anEnd ∷ aChoice ∷ anEnd ∷ aChoice ∷ anEnd ∷ aChoice ∷ anEnd ∷ aChoice ∷ anEnd ∷ aChoice ∷ anEnd ∷ aChoice ∷ anEnd ∷ aChoice ∷ anEnd ∷ aChoice ∷ anEnd ∷ []) 129 (hex "0102") ≡ notWritten 4 0 (hex "0102"))
     -- 4 before 2
-    × (write (raw 9 0 0 0 0 (pos 0) noForm noForm 0 ∷ []) 65 [] ≡ notWritten 4 0 [])
+    × (write (raw 9 0 0 0 0 (pos 0) noForm noForm 0 ∷ []) 129 [] ≡ notWritten 4 0 [])
     -- buffer just as long
     × (write (aWork ∷ []) 1 (hex "c9cacbcccd") ≡ written 5 (hex "0101000200"))
     -- buffer one shorter
@@ -342,7 +342,7 @@ pub c-call-1 :
     -- 3
     × (cCall (hex "0100000010") zeroParameters 1 (hex "65666768696a6b6c6d6e6f707172737475767778797a7b7c") ≡ called 3 (hex "65666768696a6b6c6d6e6f707172737475767778797a7b7c"))
     -- 4
-    × (cCall (hex "0403040304030403040304030403040304030403040304030403040304030403040304030403040304030403040304030403040304030403040304030403040309") zeroParameters 1 (hex "65666768696a6b6c6d6e6f707172737475767778797a7b7c") ≡ called 4 (hex "65666768696a6b6c6d6e6f707172737475767778797a7b7c"))
+    × (cCall (hex "040304030403040304030403040304030403040304030403040304030403040304030403040304030403040304030403040304030403040304030403040304030403040304030403040304030403040304030403040304030403040304030403040304030403040304030403040304030403040304030403040304030403040309") zeroParameters 1 (hex "65666768696a6b6c6d6e6f707172737475767778797a7b7c") ≡ called 4 (hex "65666768696a6b6c6d6e6f707172737475767778797a7b7c"))
     -- 5
     × (cCall (hex "03") zeroParameters 1 (hex "65666768696a6b6c6d6e6f707172737475767778797a7b7c") ≡ called 5 (hex "65666768696a6b6c6d6e6f707172737475767778797a7b7c"))
     -- 5, open at the end
@@ -626,7 +626,7 @@ pub converter-1 :
     -- to kind 6, 3 before 9
     × (withSkips (hex "06000000000100000000000000000000030000000000000000001003") [] ≡ notWritten 3 0 [])
     -- to kind 6, 4 before 9
-    × (withSkips (hex "0403040304030403040304030403040304030403040304030403040304030403040304030403040304030403040304030403040304030403040304030403040303") [] ≡ notWritten 4 64 [])
+    × (withSkips (hex "040304030403040304030403040304030403040304030403040304030403040304030403040304030403040304030403040304030403040304030403040304030403040304030403040304030403040304030403040304030403040304030403040304030403040304030403040304030403040304030403040304030403040303") [] ≡ notWritten 4 128 [])
     -- to kind 6, 5 before 9
     × (withSkips (hex "020300000001000000000000000000000300000000000000000303") [] ≡ notWritten 5 26 [])
 unfolding computes
@@ -688,7 +688,7 @@ pub converter-3 :
     -- 3 of a later record before 10
     × (withoutSkips (hex "060300000001000000000000000000000300000000000000000100030102000100") [] ≡ notWritten 3 28 [])
     -- 4 before 10
-    × (withoutSkips (hex "060300000001000000000000000000000300000000000000000100030403040304030403040304030403040304030403040304030403040304030403040304030403040304030403040304030403040304030403040304030403040303") [] ≡ notWritten 4 90 [])
+    × (withoutSkips (hex "06030000000100000000000000000000030000000000000000010003040304030403040304030403040304030403040304030403040304030403040304030403040304030403040304030403040304030403040304030403040304030403040304030403040304030403040304030403040304030403040304030403040304030403040304030403040304030403040304030403040304030403040303") [] ≡ notWritten 4 154 [])
     -- 5 of a later record before 10
     × (withoutSkips (hex "0603000000010000000000000000000003000000000000000001000303") [] ≡ notWritten 5 28 [])
     -- open at the end before 10
@@ -736,7 +736,7 @@ pub converter-call-1 :
     -- to kind 6, 3 before 9
     × (withSkipsCall (hex "06000000000100000000000000000000030000000000000000001003") [] [] ≡ lent 3 [] [])
     -- to kind 6, 4 before 9
-    × (withSkipsCall (hex "0403040304030403040304030403040304030403040304030403040304030403040304030403040304030403040304030403040304030403040304030403040303") [] [] ≡ lent 4 [] [])
+    × (withSkipsCall (hex "040304030403040304030403040304030403040304030403040304030403040304030403040304030403040304030403040304030403040304030403040304030403040304030403040304030403040304030403040304030403040304030403040304030403040304030403040304030403040304030403040304030403040303") [] [] ≡ lent 4 [] [])
     -- to kind 6, 5 before 9
     × (withSkipsCall (hex "020300000001000000000000000000000300000000000000000303") [] [] ≡ lent 5 [] [])
 unfolding computes
@@ -798,7 +798,7 @@ pub converter-call-3 :
     -- 3 of a later record before 10
     × (withoutSkipsCall (hex "060300000001000000000000000000000300000000000000000100030102000100") [] [] ≡ lent 3 [] [])
     -- 4 before 10
-    × (withoutSkipsCall (hex "060300000001000000000000000000000300000000000000000100030403040304030403040304030403040304030403040304030403040304030403040304030403040304030403040304030403040304030403040304030403040303") [] [] ≡ lent 4 [] [])
+    × (withoutSkipsCall (hex "06030000000100000000000000000000030000000000000000010003040304030403040304030403040304030403040304030403040304030403040304030403040304030403040304030403040304030403040304030403040304030403040304030403040304030403040304030403040304030403040304030403040304030403040304030403040304030403040304030403040304030403040303") [] [] ≡ lent 4 [] [])
     -- 5 of a later record before 10
     × (withoutSkipsCall (hex "0603000000010000000000000000000003000000000000000001000303") [] [] ≡ lent 5 [] [])
     -- open at the end before 10
@@ -825,11 +825,11 @@ unfolding computes
 converter-call-3 = (refl, refl, refl, refl, refl, refl, refl, refl, refl, refl, refl, refl, refl, refl, refl, refl, refl)
 
 pub numbers-1 :
-    -- every figure is below 2^62
-    (figureLimit ≡ 4611686018427387904)
+    -- every figure is below 2^63
+    (figureLimit ≡ 9223372036854775808)
     -- visits a loop, where every loop is closed
     × (visitsPerLoop ≡ 24)
     -- bytes of the program's input that matter
-    × (inputLimit ≡ 1741)
+    × (inputLimit ≡ 3469)
 unfolding computes
 numbers-1 = (refl, refl, refl)

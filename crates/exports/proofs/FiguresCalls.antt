@@ -1,5 +1,5 @@
 -- The C call in terms of the library call's answer; and demand 3 of the figures read back out of the area.
-use mathlib.Core.Path.{_≡_, sym, ap, _∙_, subst}
+use mathlib.Core.Path.{_≡_, refl, sym, ap, _∙_, subst}
 use mathlib.Core.List.{List, _++_}
 use Prim.Native.Nat.{ℕ, _^_, _≤_, _<_}
 use native.Mathlib.Omega.{arith}
@@ -8,9 +8,11 @@ use lib.ListN.{length, drop}
 use borrow.Author.Tests.{le-leb, lt-leb}
 use Rattle.meaning.specs.Limits.{areaLength}
 use Rattle.meaning.specs.Reader.{Result, ok, refused, require}
-use Rattle.meaning.specs.Answer.{answer, Figures}
+use Rattle.meaning.specs.Answer.{answer, answerBy, Figures}
+use Rattle.meaning.specs.EarlierReaders.{shortRead, UnlessTooLong}
 use Rattle.meaning.specs.CCall.{Called, areaBytes, storeAnswer, cCall}
 use Rattle.meaning.proofs.Answers.{answer-ok, call-number-zero, call-figures}
+use Rattle.meaning.proofs.LongerSheets.{answered-alike}
 use Rattle.loops.proofs.Sizes.{SmallParameters}
 use Rattle.figures.specs.Demand.{Answered}
 use Rattle.exports.specs.Demand.{Stored}
@@ -45,14 +47,15 @@ module _ (sheet : List ℕ) (ps : List ℤ) (budget : ℕ) (area : List ℕ) whe
       let s = fits f (h .2) d in
       subst (λ (x : Figures). Answered sheet ps (ok x)) (sym (call-figures sheet ps budget area f z (h .2) (s .0) (s .1) (s .2))) d
 
-  -- the three promises of the C call: the number returned, the area after it, and demand 3
+  -- the promises of the C call: the number returned, the area after it, demand 3, and that sheets which were not too long are answered as before
   abbrev pub Promised : ℕ → List ℕ → Type 0
-  Promised number after = (number ≡ cCall sheet ps budget area .number) × ((after ≡ cCall sheet ps budget area .area) × Stored sheet ps number after)
+  Promised number after = (number ≡ cCall sheet ps budget area .number) × ((after ≡ cCall sheet ps budget area .area) × (Stored sheet ps number after
+      × UnlessTooLong sheet (answer sheet ps budget ≡ answerBy shortRead sheet ps budget)))
 
   promised : SmallParameters ps → (c : Called) → cCall sheet ps budget area ≡ c → Promised (c .number) (c .area)
   promised small c e =
       let demand = subst (λ (x : Called). Stored sheet ps (x .number) (x .area)) e (stored small) in
-      (sym (ap (λ (x : Called). x .number) e), (sym (ap (λ (x : Called). x .area) e), demand))
+      (sym (ap (λ (x : Called). x .number) e), (sym (ap (λ (x : Called). x .area) e), (demand, answered-alike sheet ps budget (answer sheet ps budget) refl)))
 
   -- refusal 9
   pub promised-short : SmallParameters ps → length area < areaLength → Promised 9 area

@@ -7,11 +7,13 @@ ghost use mathlib.Core.Path.{_≡_};
 ghost use mathlib.Core.List.{[], _∷_};
 ghost use mathlib.Core.Bool.{true, false};
 ghost use Rattle.meaning.specs.CCall.{cCall};
-ghost use Rattle.meaning.specs.Converter.{withSkips, withoutSkips};
+ghost use Rattle.meaning.specs.Answer as Library;
+ghost use Rattle.meaning.specs.Converter.{addSkips, dropSkips, convert, withSkips, withoutSkips};
 ghost use Rattle.meaning.specs.ConverterCall.{withSkipsCall, withoutSkipsCall};
 ghost use Rattle.meaning.specs.Moved.{SameSheet, Turned};
-ghost use Rattle.meaning.specs.Program.{inputParameters, inputSheet, programText};
-ghost use Rattle.meaning.specs.Reader.{read};
+ghost use Rattle.meaning.specs.EarlierReaders.{shortRead, UnlessTooLong};
+ghost use Rattle.meaning.specs.Program.{inputParameters, inputSheet, programText, programTextBy};
+ghost use Rattle.meaning.specs.Reader.{andThen, read};
 ghost use Rattle.meaning.specs.ReasonsTold.{ReasonsTold};
 ghost use Rattle.meaning.specs.TextCall.{textCall};
 ghost use Rattle.meaning.specs.Lent.{lentIn};
@@ -41,6 +43,8 @@ pub extern "C" fn pumdalin_figures(
     ensures number { λ r. ⌜ r ≡ cCall (now (sheet .entry)) (p1 ∷ p2 ∷ p3 ∷ p4 ∷ []) budget (now (answer .entry)) .number ⌝ }
     ensures bytes { λ _. ⌜ now (answer .exit) ≡ cCall (now (sheet .entry)) (p1 ∷ p2 ∷ p3 ∷ p4 ∷ []) budget (now (answer .entry)) .area ⌝ }
     ensures demand3 { λ r. ⌜ Stored (now (sheet .entry)) (p1 ∷ p2 ∷ p3 ∷ p4 ∷ []) r (now (answer .exit)) ⌝ }
+    ensures before { λ _. ⌜ UnlessTooLong (now (sheet .entry))
+        (Library.answer (now (sheet .entry)) (p1 ∷ p2 ∷ p3 ∷ p4 ∷ []) budget ≡ Library.answerBy shortRead (now (sheet .entry)) (p1 ∷ p2 ∷ p3 ∷ p4 ∷ []) budget) ⌝ }
 {
     if answer.len() < AREA_LENGTH {
         return 9;
@@ -63,6 +67,7 @@ pub extern "C" fn pumdalin_text(input: &[u8], text: &mut [u8], answer: &mut [u8]
     ensures area { λ _. ⌜ now (answer .exit) ≡ textCall (now (input .entry)) (now (text .entry)) (now (answer .entry)) .area ⌝ }
     ensures reads { λ r. ⌜ (r ≡ 0 → lentIn (now (text .exit)) (now (answer .exit)) ≡ programText (now (input .entry))) ⌝ }
     ensures reasons { λ _. ⌜ ReasonsTold (inputParameters (now (input .entry))) (read (inputSheet (now (input .entry)))) ⌝ }
+    ensures before { λ _. ⌜ UnlessTooLong (inputSheet (now (input .entry))) (programText (now (input .entry)) ≡ programTextBy shortRead (now (input .entry))) ⌝ }
 {
     if answer.len() < LENGTH_SIZE {
         9
@@ -81,6 +86,8 @@ pub extern "C" fn pumdalin_with_skips(sheet: &[u8], target: &mut [u8], answer: &
     ensures area { λ _. ⌜ now (answer .exit) ≡ withSkipsCall (now (sheet .entry)) (now (target .entry)) (now (answer .entry)) .area ⌝ }
     ensures same { λ r. ⌜ (r ≡ 0 → SameSheet (now (sheet .entry)) (lentIn (now (target .exit)) (now (answer .exit)))) ⌝ }
     ensures turned { λ r. ⌜ (r ≡ 0 → Turned true withoutSkips (now (sheet .entry)) (lentIn (now (target .exit)) (now (answer .exit)))) ⌝ }
+    ensures before { λ _. ⌜ UnlessTooLong (now (sheet .entry))
+        (withSkips (now (sheet .entry)) (now (target .entry)) ≡ convert (andThen (shortRead (now (sheet .entry))) addSkips) (now (target .entry))) ⌝ }
 {
     store_sheet(sheet, true, target, answer)
 }
@@ -93,6 +100,8 @@ pub extern "C" fn pumdalin_without_skips(sheet: &[u8], target: &mut [u8], answer
     ensures area { λ _. ⌜ now (answer .exit) ≡ withoutSkipsCall (now (sheet .entry)) (now (target .entry)) (now (answer .entry)) .area ⌝ }
     ensures same { λ r. ⌜ (r ≡ 0 → SameSheet (now (sheet .entry)) (lentIn (now (target .exit)) (now (answer .exit)))) ⌝ }
     ensures turned { λ r. ⌜ (r ≡ 0 → Turned false withSkips (now (sheet .entry)) (lentIn (now (target .exit)) (now (answer .exit)))) ⌝ }
+    ensures before { λ _. ⌜ UnlessTooLong (now (sheet .entry))
+        (withoutSkips (now (sheet .entry)) (now (target .entry)) ≡ convert (andThen (shortRead (now (sheet .entry))) (dropSkips 0)) (now (target .entry))) ⌝ }
 {
     store_sheet(sheet, false, target, answer)
 }

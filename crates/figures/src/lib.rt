@@ -2,7 +2,8 @@
 mod repeat;
 
 ghost use mathlib.Core.Path.{_≡_};
-ghost use Rattle.meaning.specs.Answer.{answer};
+ghost use Rattle.meaning.specs.Answer.{answer, answerBy};
+ghost use Rattle.meaning.specs.EarlierReaders.{shortRead, UnlessTooLong};
 ghost use Rattle.figures.specs.Answers.{answerResult};
 ghost use Rattle.figures.specs.Demand.{Answered};
 use crate::repeat::figures_of;
@@ -37,6 +38,7 @@ const MAX_BUDGET: u32 = 1000000;
 pub fn cycles(sheet: &[u8], parameters: Parameters, budget: u32) -> Answer
     ensures answers { λ r. ⌜ answerResult r ≡ answer (now (sheet .entry)) parameters budget ⌝ }
     ensures demand3 { λ r. ⌜ Answered (now (sheet .entry)) parameters (answerResult r) ⌝ }
+    ensures before { λ r. ⌜ UnlessTooLong (now (sheet .entry)) (answerResult r ≡ answerBy shortRead (now (sheet .entry)) parameters budget) ⌝ }
 {
     if budget == 0 || MAX_BUDGET < budget {
         return Answer::Refused(Refusal {

@@ -1,17 +1,18 @@
 -- What was stored is read back: a record's row by its number, a loop's words, facts and limit by its number among the loops.
 use mathlib.Core.List.{_++_, List, [], _∷_}
 use mathlib.Core.Path.{ap, refl, _∙_, _≡_}
-use Prim.Native.Nat.{_%_, _<_, ℕ}
+use Prim.Native.Nat.{_*_, _/_, _%_, _<_, min, ℕ}
 use native.Mathlib.Nat.{mod-eq-of-lt}
+use native.Mathlib.Omega.{arith}
 use lib.ListN.{getD, length}
 use lib.Seq.{paste}
 use lib.IntN.{ℤ}
-use Rattle.meaning.specs.Limits.{recordLimit}
+use Rattle.meaning.specs.Limits.{recordLimit, depthLimit, openLimit}
 use Rattle.layout.specs.declared.facts.Fact.{Fact}
 use Rattle.layout.specs.declared.rows.Row.{Row}
 use Rattle.layout.specs.Loops.{differenceFrom, differenceWidth, differenceWords, factFrom, factIn, factNumbers, factWidth, limitAt, loopLimit, wordIn}
 use Rattle.layout.specs.Numbers.{joined, storedIn}
-use Rattle.layout.specs.Rows.{numberIn, rowFrom, rowNumbers, rowWidth}
+use Rattle.layout.specs.Rows.{aroundRoom, roleRoom, endNumbers, depthNumbers, placeNumbers, numberIn, numberRoom, offsetRoom, rowFrom, rowNumbers, rowWidth}
 use Rattle.layout.proofs.Storing.{read-back, store-next, stored-at, stored-more}
 
 -- ---- rows
@@ -22,6 +23,36 @@ blankRow = record { role = 0; first = 0; second = 0; end = 0; enclosing = 0; fra
 row-width : (r : Row) → length (rowNumbers r) ≡ rowWidth
 unfolding rowNumbers
 row-width r = refl
+
+-- what shares a number is read from it
+module _ (r : Row) where
+  pub end-shared : endNumbers r % recordLimit ≡ r .end % recordLimit
+  unfolding endNumbers
+  end-shared = omega arith
+
+  pub enclosing-shared : r .enclosing < aroundRoom → endNumbers r / numberRoom ≡ r .enclosing
+  unfolding endNumbers
+  enclosing-shared h = omega arith
+
+  pub loops-shared : r .loops < numberRoom → depthNumbers r % numberRoom ≡ r .loops
+  unfolding depthNumbers
+  loops-shared h = omega arith
+
+  pub frame-shared : depthNumbers r / numberRoom % openLimit ≡ r .frame % openLimit
+  unfolding depthNumbers
+  frame-shared = omega arith
+
+  pub depth-shared : min (depthNumbers r / (numberRoom * openLimit)) depthLimit ≡ min (r .depth) depthLimit
+  unfolding depthNumbers
+  depth-shared = omega arith
+
+  pub offset-shared : r .offset < offsetRoom → placeNumbers r % offsetRoom ≡ r .offset
+  unfolding placeNumbers
+  offset-shared h = omega arith
+
+  pub role-shared : r .role < roleRoom → placeNumbers r / offsetRoom ≡ r .role
+  unfolding placeNumbers
+  role-shared h = omega arith
 
 module _ (before : List ℕ) (rows : List Row) (n : ℕ) where
   abbrev rowsStored : List ℕ

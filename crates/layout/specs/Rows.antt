@@ -1,6 +1,6 @@
 -- Rows: what the reader says of each record, as numbers, and the numbers read by position.
 use mathlib.Core.List.{List, [], _∷_}
-use Prim.Native.Nat.{ℕ, zero, suc, _+_, _*_, _-_, _%_, min}
+use Prim.Native.Nat.{ℕ, zero, suc, _+_, _*_, _-_, _/_, _%_, min}
 use lib.ListN.{getD}
 use Rattle.meaning.specs.Limits.{recordLimit, depthLimit, openLimit}
 use Rattle.meaning.specs.Record.{Kind, workKind, loopKind, endKind, choiceKind, nextArmKind, skipCycles, Record, workRecord, loopRecord, endRecord, choiceRecord, nextArmRecord, kind}
@@ -52,16 +52,42 @@ skipCost endRecord = 0
 skipCost choiceRecord = 0
 skipCost nextArmRecord = 0
 
--- ---- the numbers of a row
+-- ---- the numbers of a row: three costs, and three that each hold what is small, the first of it below a room
 
 abbrev pub rowWidth : ℕ
-rowWidth = 10
+rowWidth = 6
 
 abbrev pub rowsLength : ℕ
 rowsLength = recordLimit * rowWidth
 
+-- the room of a record's number and of a number of loops, of one more than a record's number, of an offset and of a role: what a remainder cuts off
+-- stands in no sheet
+abbrev pub numberRoom : ℕ
+numberRoom = recordLimit
+
+abbrev pub aroundRoom : ℕ
+aroundRoom = 512
+
+abbrev pub offsetRoom : ℕ
+offsetRoom = 4096
+
+abbrev pub roleRoom : ℕ
+roleRoom = 16
+
+-- the end and the record that it stands in
+unfoldable pub endNumbers : Row → ℕ
+endNumbers r = r .end % numberRoom + numberRoom * (r .enclosing % aroundRoom)
+
+-- the loops before it, and how deep it stands: the records open around it and the loops among them
+unfoldable pub depthNumbers : Row → ℕ
+depthNumbers r = r .loops % numberRoom + numberRoom * (r .frame % openLimit + openLimit * min (r .depth) depthLimit)
+
+-- the offset and the role
+unfoldable pub placeNumbers : Row → ℕ
+placeNumbers r = r .offset % offsetRoom + offsetRoom * (r .role % roleRoom)
+
 unfoldable pub rowNumbers : Row → List ℕ
-rowNumbers r = r .role ∷ r .first ∷ r .second ∷ r .end ∷ r .enclosing ∷ r .frame ∷ r .depth ∷ r .loops ∷ r .offset ∷ r .skip ∷ []
+rowNumbers r = r .first ∷ r .second ∷ r .skip ∷ endNumbers r ∷ depthNumbers r ∷ placeNumbers r ∷ []
 
 -- where the row of the record with this number begins
 abbrev pub rowFrom : ℕ → ℕ
@@ -75,17 +101,17 @@ numberIn rows number column = getD rows (rowFrom number + column) 0
 
 module _ (rows : List ℕ) (number : ℕ) where
   abbrev pub roleAt : ℕ
-  roleAt = numberIn rows number 0
+  roleAt = numberIn rows number 5 / offsetRoom
 
   abbrev pub firstAt : ℕ
-  firstAt = numberIn rows number 1
+  firstAt = numberIn rows number 0
 
   abbrev pub secondAt : ℕ
-  secondAt = numberIn rows number 2
+  secondAt = numberIn rows number 1
 
   -- what a loop costs where it makes no trip
   abbrev pub skipAt : ℕ
-  skipAt = numberIn rows number 9
+  skipAt = numberIn rows number 2
 
   -- what entering a loop costs, where it makes so many trips
   unfoldable pub entryCostAt : ℕ → ℕ
@@ -102,7 +128,7 @@ module _ (rows : List ℕ) (number : ℕ) where
 
   -- the number of the record that it stands in, plus 1; 0 where it stands in none
   abbrev pub enclosingAt : ℕ
-  enclosingAt = numberIn rows number 4
+  enclosingAt = numberIn rows number 3 / numberRoom
 
   -- the loop or choice that an end ends, and that a next arm belongs to
   abbrev pub openerAt : ℕ
@@ -110,19 +136,19 @@ module _ (rows : List ℕ) (number : ℕ) where
 
   -- the frame of a loop or choice
   abbrev pub frameAt : ℕ
-  frameAt = numberIn rows number 5 % openLimit
+  frameAt = numberIn rows number 4 / numberRoom % openLimit
 
   -- how many loops are open around it
   abbrev pub depthAt : ℕ
-  depthAt = min (numberIn rows number 6) depthLimit
+  depthAt = min (numberIn rows number 4 / (numberRoom * openLimit)) depthLimit
 
   -- how many loops stand before it
   abbrev pub loopsBeforeAt : ℕ
-  loopsBeforeAt = numberIn rows number 7
+  loopsBeforeAt = numberIn rows number 4 % numberRoom
 
   -- the number of a loop among the loops
   abbrev pub loopAt : ℕ
   loopAt = loopsBeforeAt % loopLimit
 
   abbrev pub offsetAt : ℕ
-  offsetAt = numberIn rows number 8
+  offsetAt = numberIn rows number 5 % offsetRoom

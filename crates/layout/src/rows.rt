@@ -1,7 +1,8 @@
-// Rows: what the reader says of each record, ten numbers a record.
+// Rows: what the reader says of each record, six numbers a record. Small ones share a number, since a call makes all rows anew.
 ghost use mathlib.Core.Path.{_≡_};
-ghost use Prim.Native.Nat.{_<_};
+ghost use Prim.Native.Nat.{_<_, min};
 ghost use lib.Seq.{paste};
+ghost use Rattle.meaning.specs.Limits.{depthLimit};
 ghost use Rattle.layout.specs.Rows.{rowWidth, rowFrom, rowNumbers, numberIn};
 ghost use Rattle.layout.specs.Rows.{roleAt, firstAt, secondAt, entryCostAt, endAt, afterEndAt, enclosingAt, openerAt, frameAt, depthAt, loopsBeforeAt, loopAt, offsetAt};
 use crate::MAX_LOOPS;
@@ -39,27 +40,35 @@ pub struct Row {
     pub skip: u16,
 }
 
-const ROW_WIDTH: usize = 10;
+const ROW_WIDTH: usize = 6;
 
-const ROLE: usize = 0;
+const FIRST: usize = 0;
 
-const FIRST: usize = 1;
+const SECOND: usize = 1;
 
-const SECOND: usize = 2;
+const SKIP: usize = 2;
 
+// The end, and the record that it stands in.
 const ENDING: usize = 3;
 
-const ENCLOSING: usize = 4;
+// The loops before it; the frame; the loops open around it.
+const DEPTH: usize = 4;
 
-const FRAME: usize = 5;
+// The offset, and the role.
+const PLACE: usize = 5;
 
-const DEPTH: usize = 6;
+// The room of a record's number and of a number of loops, of one more than a record's number, of a frame, of an offset and of a role.
+const NUMBERS: u16 = MAX_RECORDS as u16;
 
-const LOOPS: usize = 7;
+const AROUND: u16 = 512;
 
-const OFFSET: usize = 8;
+const FRAMES: u16 = MAX_OPEN as u16;
 
-const SKIP: usize = 9;
+const OFFSETS: u16 = 4096;
+
+const ROLES: u16 = 16;
+
+const DEEPEST: u16 = MAX_DEPTH as u16;
 
 pub const ROW_NUMBERS: usize = MAX_RECORDS * ROW_WIDTH;
 
@@ -73,21 +82,24 @@ fn column_at(rows: &Rows, number: usize, column: usize) -> u16
     rows[number % MAX_RECORDS * ROW_WIDTH + column]
 }
 
-// Stores a record's row.
+fn at_most_deepest(depth: u16) -> u16
+    ensures { λ r. ⌜ r ≡ min depth depthLimit ⌝ }
+{
+    if depth < DEEPEST { depth } else { DEEPEST }
+}
+
+// Stores a record's row. What the remainders cut off stands in no sheet.
 pub fn put_row(rows: &mut Rows, number: usize, row: Row)
     ensures { λ _. ⌜ now (rows .exit) ≡ paste (now (rows .entry)) (rowFrom number) (rowNumbers row) rowWidth ⌝ }
 {
+    let depth = at_most_deepest(row.depth);
     let values = [
-        row.role,
         row.first,
         row.second,
-        row.end,
-        row.enclosing,
-        row.frame,
-        row.depth,
-        row.loops,
-        row.offset,
         row.skip,
+        row.end % NUMBERS + NUMBERS * (row.enclosing % AROUND),
+        row.loops % NUMBERS + NUMBERS * (row.frame % FRAMES + FRAMES * depth),
+        row.offset % OFFSETS + OFFSETS * (row.role % ROLES),
     ];
     put(rows, number % MAX_RECORDS * ROW_WIDTH, &values);
 }
@@ -95,7 +107,7 @@ pub fn put_row(rows: &mut Rows, number: usize, row: Row)
 pub fn role_at(rows: &Rows, number: usize) -> u16
     ensures { λ r. ⌜ r ≡ roleAt (now (rows .entry)) number ⌝ }
 {
-    column_at(rows, number, ROLE)
+    column_at(rows, number, PLACE) / OFFSETS
 }
 
 // The least of straight work.
@@ -147,7 +159,7 @@ pub fn after_end_at(rows: &Rows, number: usize) -> usize
 pub fn enclosing_at(rows: &Rows, number: usize) -> u16
     ensures { λ r. ⌜ r ≡ enclosingAt (now (rows .entry)) number ⌝ }
 {
-    column_at(rows, number, ENCLOSING)
+    column_at(rows, number, ENDING) / NUMBERS
 }
 
 // The loop or choice that an end ends, and that a next arm belongs to.
@@ -165,14 +177,14 @@ pub fn opener_at(rows: &Rows, number: usize) -> usize
 pub fn frame_at(rows: &Rows, number: usize) -> usize
     ensures { λ r. ⌜ r ≡ frameAt (now (rows .entry)) number ⌝ }
 {
-    position(column_at(rows, number, FRAME)) % MAX_OPEN
+    position(column_at(rows, number, DEPTH) / NUMBERS) % MAX_OPEN
 }
 
 // How many loops are open around a record.
 pub fn depth_at(rows: &Rows, number: usize) -> usize
     ensures { λ r. ⌜ r ≡ depthAt (now (rows .entry)) number ⌝ }
 {
-    let depth = position(column_at(rows, number, DEPTH));
+    let depth = position(column_at(rows, number, DEPTH) / (NUMBERS * FRAMES));
     if depth < MAX_DEPTH { depth } else { MAX_DEPTH }
 }
 
@@ -180,7 +192,7 @@ pub fn depth_at(rows: &Rows, number: usize) -> usize
 pub fn loops_before_at(rows: &Rows, number: usize) -> usize
     ensures { λ r. ⌜ r ≡ loopsBeforeAt (now (rows .entry)) number ⌝ }
 {
-    position(column_at(rows, number, LOOPS))
+    position(column_at(rows, number, DEPTH) % NUMBERS)
 }
 
 // The number of a loop among the loops.
@@ -194,7 +206,7 @@ pub fn loop_at(rows: &Rows, number: usize) -> usize
 pub fn place_at(rows: &Rows, number: usize) -> u16
     ensures { λ r. ⌜ r ≡ offsetAt (now (rows .entry)) number ⌝ }
 {
-    column_at(rows, number, OFFSET)
+    column_at(rows, number, PLACE) % OFFSETS
 }
 
 pub fn offset_at(rows: &Rows, number: usize) -> usize

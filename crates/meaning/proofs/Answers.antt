@@ -18,7 +18,7 @@ use Rattle.meaning.specs.Reader.{Result, ok, refused, require, andThen, 
 use Rattle.meaning.specs.Tree.{tree}
 use Rattle.meaning.specs.Visits.{visits}
 use Rattle.meaning.specs.Report.{firstOverCeiling}
-use Rattle.meaning.specs.Answer.{Figures, figures, sheetReports, checkCeilings, accepted, figuresOf, checkVisits, answer}
+use Rattle.meaning.specs.Answer.{Figures, figures, sheetReports, checkCeilings, accepted, acceptedBy, figuresOf, checkVisits, answer, answerBy}
 use Rattle.meaning.specs.CCall.{areaBytes, storeAnswer, cCall, figuresIn}
 use Rattle.meaning.proofs.Logic.{refused-is-not-ok, andThen-ok, ok-injective, refused-number}
 use Rattle.meaning.proofs.Refusals.{read-refused}
@@ -34,7 +34,7 @@ checkCeilings-ok (some offset) a b e = refused-is-not-ok e
 
 module _ (sheet : List ℕ) (ps : List ℤ) where
   accepted-by : {r : Result (List Record)} → read sheet ≡ r → accepted sheet ps ≡ andThen r λ rs. checkCeilings (firstOverCeiling (sheetReports ps rs)) rs
-  unfolding accepted
+  unfolding acceptedBy
   accepted-by e = ap (λ r. andThen r λ rs. checkCeilings (firstOverCeiling (sheetReports ps rs)) rs) e
 
   pub accepted-unread : (number place : ℕ) → read sheet ≡ refused number place → accepted sheet ps ≡ refused number place
@@ -51,7 +51,7 @@ module _ (sheet : List ℕ) (ps : List ℤ) where
   accepted-within rs e f = accepted-by e ∙ ap (λ o. checkCeilings o rs) f
 
   pub accepted-ok : (rs : List Record) → (accepted sheet ps ≡ ok rs) ↔ ((read sheet ≡ ok rs) × (firstOverCeiling (sheetReports ps rs) ≡ none))
-  unfolding accepted
+  unfolding acceptedBy
   accepted-ok rs =
       (λ e. byReading (andThen-ok (read sheet) (λ rs. checkCeilings (firstOverCeiling (sheetReports ps rs)) rs) rs e), λ h. accepted-within rs (h .0) (h .1))
     where
@@ -60,6 +60,21 @@ module _ (sheet : List ℕ) (ps : List ℤ) where
       byReading (rs′, e, f) =
           let g = checkCeilings-ok (firstOverCeiling (sheetReports ps rs′)) rs′ rs f in
           (e ∙ ap {B = Result (List Record)} ok (g .1), subst (λ x. firstOverCeiling (sheetReports ps x) ≡ none) (g .1) (g .0))
+
+-- the answer depends on the sheet only by what the reader says of it
+pub answer-of-reading : (reader other : List ℕ → Result (List Record)) (sheet sheet′ : List ℕ) (ps : List ℤ) (budget : ℕ) → reader sheet ≡ other sheet′ →
+    answerBy reader sheet ps budget ≡ answerBy other sheet′ ps budget
+unfolding answerBy acceptedBy
+answer-of-reading reader other sheet sheet′ ps budget e =
+    ap (λ (r : Result (List Record)). require (leb 1 budget && leb budget budgetLimit) 7 0
+    (andThen (andThen r λ rs. checkCeilings (firstOverCeiling (sheetReports ps rs)) rs) λ rs. checkVisits budget (figuresOf ps (tree rs)))) e
+
+-- and is its refusal
+pub answer-unread : (reader : List ℕ → Result (List Record)) (sheet : List ℕ) (ps : List ℤ) (budget number place : ℕ) →
+    (leb 1 budget && leb budget budgetLimit) ≡ true → reader sheet ≡ refused number place → answerBy reader sheet ps budget ≡ refused number place
+unfolding answerBy acceptedBy require andThen
+answer-unread reader sheet ps budget number place b e =
+    λ t. require (b t) 7 0 (andThen (andThen (e t) λ rs. checkCeilings (firstOverCeiling (sheetReports ps rs)) rs) λ rs. checkVisits budget (figuresOf ps (tree rs)))
 
 -- ---- the budget
 
@@ -77,7 +92,7 @@ budget-decided budget =
       | no p ↦ inl (inl (omega arith))
     ]
 
-in-range-passes : (budget : ℕ) → BudgetInRange budget → (leb 1 budget && leb budget budgetLimit) ≡ true
+pub in-range-passes : (budget : ℕ) → BudgetInRange budget → (leb 1 budget && leb budget budgetLimit) ≡ true
 in-range-passes budget b = λ t. le-leb 1 budget (b .positive) t && le-leb budget budgetLimit (b .within) t
 
 out-of-range-fails : (budget : ℕ) → BudgetOutOfRange budget → (leb 1 budget && leb budget budgetLimit) ≡ false
@@ -100,7 +115,7 @@ module _ (sheet : List ℕ) (ps : List ℤ) (budget : ℕ) where
 
   answer-by : {c : Bool} {r : Result (List Record)} → (leb 1 budget && leb budget budgetLimit) ≡ c → accepted sheet ps ≡ r →
       answer sheet ps budget ≡ require c 7 0 (andThen r λ rs. checkVisits budget (figuresOf ps (tree rs)))
-  unfolding answer
+  unfolding answerBy
   answer-by e f = λ t. require (e t) 7 0 (andThen (f t) λ rs. checkVisits budget (figuresOf ps (tree rs)))
 
   pub answer-out-of-range : BudgetOutOfRange budget → answer sheet ps budget ≡ refused 7 0

@@ -5,7 +5,7 @@ use Rattle.meaning.specs.Record.{kindNumber, kindOf, bodyLength, strideS
 use Rattle.meaning.specs.Record.{skipBytes, bodyBytes, recordBytes, sheetBytes, sheetLength, loopDepth, fieldsInRange, openAfter}
 use Rattle.meaning.specs.Reader.{require, orRefuse, andThen, accept, endOfSheet, readRecordOf, readFromOf, read, headOf, headAt, bodyOf, bodyAt}
 use Rattle.meaning.specs.Writer.{workFieldsZero, formZero, skipZero, loopFieldsZero, foreignFieldsZero, loopIn, recordOf, checkRecord, checkFrom}
-use Rattle.meaning.specs.Writer.{check, store, fitSheet, write}
+use Rattle.meaning.specs.Writer.{checkUpTo, store, fitSheet, writeUpTo}
 use Rattle.meaning.specs.Converter.{withSkip, withoutSkip, changeLoop, skipsStart, addSkips, dropSkips, recordsWithSkips, recordsWithoutSkips}
 use Rattle.meaning.specs.Converter.{convert, withSkips, withoutSkips}
 use Rattle.meaning.specs.ConverterCall.{convertCall, withSkipsCall, withoutSkipsCall}
@@ -21,12 +21,12 @@ use Rattle.meaning.specs.Report.{orElse, firstOverCeiling, allClosed, lo
 use Rattle.meaning.specs.ClosedSum.{closedSum, addAll, loopSum, addTrip}
 use Rattle.meaning.specs.Stage.{firstState, afterEnd, addArm, stateOf, visitBegun, andOn, indexesOf, rangesOf}
 use Rattle.meaning.specs.Stage.{enterLoop, endTrip, passRecord, pass, passFrom, stage, stages, visitsBegun}
-use Rattle.meaning.specs.Answer.{sheetReports, checkCeilings, accepted, figuresOf, checkVisits, answer}
+use Rattle.meaning.specs.Answer.{sheetReports, checkCeilings, figuresOf, checkVisits, acceptedBy, answerBy}
 use Rattle.meaning.specs.CCall.{areaBytes, storeAnswer, cCall, figuresIn}
 use Rattle.meaning.specs.Text.{text, lastDigit, digits, decimal}
 use Rattle.meaning.specs.ReasonLine.{unevenLineStart, reasonLine, reasonLines, numberAfter, numberAt, sameText, firstWithLine, readReason}
 use Rattle.meaning.specs.Program.{figuresLine, className, loopLine, reportLines, loopLines, refusedLine, answerText}
-use Rattle.meaning.specs.Program.{inputParameters, inputBudget, inputSheet, reportsOf, programText}
+use Rattle.meaning.specs.Program.{inputParameters, inputBudget, inputSheet, reportsOf, programTextBy}
 use Rattle.meaning.specs.Lent.{storeLent, lentIn}
 use Rattle.meaning.specs.TextCall.{fitText, textCall}
 use Rattle.meaning.proofs.Vocabulary.{hexDigit, hex, sheetReportsOf, stateAfter}
@@ -37,15 +37,15 @@ unfoldable pub computes : Unit {0}
 unfolding unsigned littleEndian decodeSigned encodeSigned hasPattern unsigned16 signed16 signed8 formAt formBytes isZero allZero factorsFit formInRange value
     subtract kindNumber kindOf bodyLength isGiven skipWhere skipOr skipCycles kind recordLength decodeRecord skipBytes bodyBytes recordBytes sheetBytes
     sheetLength loopDepth fieldsInRange openAfter require orRefuse andThen accept endOfSheet readRecordOf readFromOf read headOf headAt bodyOf bodyAt
-    workFieldsZero formZero skipZero loopFieldsZero foreignFieldsZero loopIn recordOf checkRecord checkFrom check store fitSheet write withSkip withoutSkip
+    workFieldsZero formZero skipZero loopFieldsZero foreignFieldsZero loopIn recordOf checkRecord checkFrom checkUpTo store fitSheet writeUpTo withSkip withoutSkip
     changeLoop skipsStart addSkips dropSkips recordsWithSkips recordsWithoutSkips convert withSkips withoutSkips convertCall withSkipsCall withoutSkipsCall
     onFirst takeBody takeArms segments firstSegment tree records armsRecords loops armsLoops height armsHeight difference strideSize countsDown entryCost
     tripCount sumOver trips indexAt innerIndexes time armsTime TripsRun Run ArmRun scale addRange dotRange rangeUp rangeDown range indexRange innerRanges differenceRange
     ceiling push pushOwn pushInner strideDivides askedDifference isClosed closable closed loopClass countOver visitedOf visitedTrips visits armsVisits
     firstFailing choiceTests armsChoiceTests aroundWith unevenTests ownTests loopTests armsLoopTests closingTests reasonOf orElse firstOverCeiling allClosed
     loopReports armsReports closedSum addAll loopSum addTrip firstState afterEnd addArm stateOf visitBegun andOn indexesOf rangesOf enterLoop endTrip
-    passRecord pass passFrom stage stages visitsBegun sheetReports checkCeilings accepted figuresOf checkVisits answer areaBytes storeAnswer cCall figuresIn
+    passRecord pass passFrom stage stages visitsBegun sheetReports checkCeilings figuresOf checkVisits acceptedBy answerBy areaBytes storeAnswer cCall figuresIn
     text lastDigit digits decimal unevenLineStart reasonLine reasonLines numberAfter numberAt sameText firstWithLine readReason figuresLine className
-    loopLine reportLines loopLines refusedLine answerText inputParameters inputBudget inputSheet reportsOf programText storeLent fitText textCall lentIn
+    loopLine reportLines loopLines refusedLine answerText inputParameters inputBudget inputSheet reportsOf programTextBy storeLent fitText textCall lentIn
     hexDigit hex sheetReportsOf stateAfter floorDivide choose differences newtonTerms newtonSum
 computes = tt

@@ -9,7 +9,7 @@ use lib.Dec.{T, eqb}
 use Rattle.meaning.specs.Record.{Loop, strideSize, skipOr, skipCycles, Record, workRecord, loopRecord, endRecord, choiceRecord, nextArmRecord, recordLength}
 use Rattle.meaning.specs.Record.{Open, fieldsInRange, openAfter}
 use Rattle.meaning.specs.Reader.{ok, andThen, read}
-use Rattle.meaning.specs.Writer.{store, fitSheet, check, write}
+use Rattle.meaning.specs.Writer.{store, fitSheet, check, write, writeUpTo}
 use Rattle.meaning.specs.Converter.{withSkip, withoutSkip, changeLoop, skipsStart, dropSkips, convert}
 use Rattle.meaning.proofs.Logic.{T→true, andThen-ok, require-ok, ok-injective}
 use Rattle.meaning.proofs.Accepted.{InPlace, WellFormed, read-well-formed}
@@ -89,7 +89,7 @@ without-skips-converted at rs new e = record { change = withoutStartSkip; same =
 -- what the writer's check accepts it writes as a converter does
 pub checked-written : (rs : List Record) → check (map rawOf rs) (length rs) ≡ ok rs → (buffer : List ℕ) →
     write (map rawOf rs) (length rs) buffer ≡ convert (ok rs) buffer
-unfolding write convert
+unfolding writeUpTo convert
 checked-written rs c buffer = ap (λ r. store buffer (andThen r (fitSheet buffer))) c
 
 module _ (sheet : List ℕ) (rs : List Record) (e : read sheet ≡ ok rs) (new : List Record) (c : Converted rs new) where

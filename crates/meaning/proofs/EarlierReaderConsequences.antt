@@ -1,23 +1,25 @@
 -- What the promise of the sheets before document 02's requests comes to, drawn from it alone, so that a weaker part breaks a theorem: each is read as it
--- was, its loops mean what they meant, and only the refusals 2 and 3 of what is new may change.
+-- was, its loops mean what they meant, and only the refusals 2, 3 and 4 of what is new may change.
 use mathlib.Core.Path.{_≡_, sym, _∙_, subst}
 use mathlib.Core.List.{List, [], _∷_, _++_}
 use mathlib.Core.Bool.{Bool}
 use mathlib.Core.Logic.{_⊎_, inl, inr}
 use mathlib.Core.Option.{none, some}
-use Prim.Native.Nat.{ℕ, zero, _+_, _≤_}
+use Prim.Native.Nat.{ℕ, zero, _+_, _≤_, _<_}
 use lib.IntN.{ℤ, pos, negℤ, _+ℤ_, _*ℤ_}
-use lib.ListN.{getD, replicate}
+use lib.ListN.{length, getD, take, replicate}
 use Rattle.whole.specs.Integer.{larger}
 use Rattle.meaning.specs.Number.{unsigned16}
 use Rattle.meaning.specs.Form.{value, subtract}
-use Rattle.meaning.specs.Record.{loopKind, kindOf, Loop, strideSize, Record, loopRecord}
+use Rattle.meaning.specs.Record.{loopKind, kindOf, Loop, strideSize, Record, loopRecord, sheetLength}
 use Rattle.meaning.specs.Reader.{ok, refused, read}
 use Rattle.meaning.specs.Time.{difference, entryCost, tripCount, trips, indexAt}
 use Rattle.meaning.specs.Range.{Range, range, indexRange, ceiling}
 use Rattle.meaning.specs.Closed.{pushOwn, askedDifference}
-use Rattle.meaning.specs.EarlierReaders.{firstRead, unsignedRead, StrideAbove, ReadAsBefore}
+use Rattle.meaning.specs.Answer.{answerBy}
+use Rattle.meaning.specs.EarlierReaders.{firstRead, unsignedRead, shortRead, StrideAbove, ReadAsBefore}
 use Rattle.meaning.proofs.Logic.{refused-is-not-ok, refused-number, refused-place}
+use Rattle.meaning.proofs.Answers.{BudgetInRange, in-range-passes, answer-unread}
 
 -- written out once more, so that a weaker promise breaks what follows
 abbrev pub AboveAt : List ℕ → ℕ → Type 0
@@ -34,15 +36,36 @@ module _ {sheet : List ℕ} (before : ReadAsBefore sheet) where
       go (inl same) = sym same ∙ e
       go (inr (at, refusal, six)) = refused-is-not-ok (sym refusal ∙ e)
 
-  pub still-signed : (rs : List Record) → unsignedRead sheet ≡ ok rs → read sheet ≡ ok rs
+  -- before there were longer sheets
+  pub still-signed : (rs : List Record) → unsignedRead sheet ≡ ok rs → shortRead sheet ≡ ok rs
   still-signed rs e = go (before .alikeSigned)
     where
-      go : (unsignedRead sheet ≡ read sheet) ⊎ ((at : ℕ) × (unsignedRead sheet ≡ refused 3 at) × StrideAbove sheet at) → read sheet ≡ ok rs
+      go : (unsignedRead sheet ≡ shortRead sheet) ⊎ ((at : ℕ) × (unsignedRead sheet ≡ refused 3 at) × StrideAbove sheet at) → shortRead sheet ≡ ok rs
       go (inl same) = sym same ∙ e
       go (inr (at, refusal, above)) = refused-is-not-ok (sym refusal ∙ e)
 
+  pub still-longer : (rs : List Record) → shortRead sheet ≡ ok rs → read sheet ≡ ok rs
+  still-longer rs e = go (before .alikeLonger)
+    where
+      go : (shortRead sheet ≡ read sheet) ⊎ ((at : ℕ) × (shortRead sheet ≡ refused 4 at)) → read sheet ≡ ok rs
+      go (inl same) = sym same ∙ e
+      go (inr (at, refusal)) = refused-is-not-ok (sym refusal ∙ e)
+
   pub still-read : (rs : List Record) → firstRead sheet ≡ ok rs → read sheet ≡ ok rs
-  still-read rs e = still-signed rs (still-unsigned rs e)
+  still-read rs e = still-longer rs (still-signed rs (still-unsigned rs e))
+
+  -- a sheet that is now read and has at most 64 records was read before, and one that has more was not
+  pub was-read : (rs : List Record) → read sheet ≡ ok rs → length rs ≤ 64 → shortRead sheet ≡ ok rs
+  was-read rs e h = before .shorter rs e h
+
+  pub was-refused : (rs : List Record) → read sheet ≡ ok rs → 64 < length rs → shortRead sheet ≡ refused 4 (sheetLength (take 64 rs))
+  was-refused rs e h = before .longer rs e h
+
+  -- and the library call turned it down so, at every budget within its range
+  pub was-turned-down : (rs : List Record) (ps : List ℤ) (budget : ℕ) → BudgetInRange budget → read sheet ≡ ok rs → 64 < length rs →
+      answerBy shortRead sheet ps budget ≡ refused 4 (sheetLength (take 64 rs))
+  was-turned-down rs ps budget within e h =
+      answer-unread shortRead sheet ps budget 4 (sheetLength (take 64 rs)) (in-range-passes budget within) (was-refused rs e h)
 
   -- ---- loops
 
@@ -80,27 +103,41 @@ module _ {sheet : List ℕ} (before : ReadAsBefore sheet) where
       go (inr (six-at, refusal, six)) =
           inr (refused-number (sym e ∙ refusal), subst (λ (n : ℕ). getD sheet n 0 ≡ 6) (sym (refused-place (sym e ∙ refusal))) six)
 
-  -- and a sign only a refusal 3: there stands a loop with a field that is a negative stride
-  pub still-refused-signed : (number at : ℕ) → unsignedRead sheet ≡ refused number at → (read sheet ≡ refused number at) ⊎ ((number ≡ 3) × AboveAt sheet at)
+  -- a sign only a refusal 3: there stands a loop with a field that is a negative stride
+  pub still-refused-signed : (number at : ℕ) → unsignedRead sheet ≡ refused number at →
+      (shortRead sheet ≡ refused number at) ⊎ ((number ≡ 3) × AboveAt sheet at)
   still-refused-signed number at e = go (before .alikeSigned)
     where
-      go : (unsignedRead sheet ≡ read sheet) ⊎ ((at : ℕ) × (unsignedRead sheet ≡ refused 3 at) × StrideAbove sheet at) →
-          (read sheet ≡ refused number at) ⊎ ((number ≡ 3) × AboveAt sheet at)
+      go : (unsignedRead sheet ≡ shortRead sheet) ⊎ ((at : ℕ) × (unsignedRead sheet ≡ refused 3 at) × StrideAbove sheet at) →
+          (shortRead sheet ≡ refused number at) ⊎ ((number ≡ 3) × AboveAt sheet at)
       go (inl same) = inl (sym same ∙ e)
       go (inr (above-at, refusal, above)) =
           inr (refused-number (sym e ∙ refusal), subst (AboveAt sheet) (sym (refused-place (sym e ∙ refusal))) above)
 
+  -- and more records only a refusal 4
+  pub still-refused-longer : (number at : ℕ) → shortRead sheet ≡ refused number at → (read sheet ≡ refused number at) ⊎ (number ≡ 4)
+  still-refused-longer number at e = go (before .alikeLonger)
+    where
+      go : (shortRead sheet ≡ read sheet) ⊎ ((at : ℕ) × (shortRead sheet ≡ refused 4 at)) → (read sheet ≡ refused number at) ⊎ (number ≡ 4)
+      go (inl same) = inl (sym same ∙ e)
+      go (inr (long-at, refusal)) = inr (refused-number (sym e ∙ refusal))
+
   -- any other refusal stays, with its place
-  pub still-refused : (number at : ℕ) → firstRead sheet ≡ refused number at →
-      (read sheet ≡ refused number at) ⊎ (((number ≡ 2) × (getD sheet at 0 ≡ 6)) ⊎ ((number ≡ 3) × AboveAt sheet at))
+  abbrev StillRefused : ℕ → ℕ → Type 0
+  StillRefused number at =
+      (read sheet ≡ refused number at) ⊎ (((number ≡ 2) × (getD sheet at 0 ≡ 6)) ⊎ (((number ≡ 3) × AboveAt sheet at) ⊎ (number ≡ 4)))
+
+  pub still-refused : (number at : ℕ) → firstRead sheet ≡ refused number at → StillRefused number at
   still-refused number at e = byKind (still-refused-unsigned number at e)
     where
-      byStride : (read sheet ≡ refused number at) ⊎ ((number ≡ 3) × AboveAt sheet at) →
-          (read sheet ≡ refused number at) ⊎ (((number ≡ 2) × (getD sheet at 0 ≡ 6)) ⊎ ((number ≡ 3) × AboveAt sheet at))
-      byStride (inl same) = inl same
-      byStride (inr now) = inr (inr now)
+      byLength : (read sheet ≡ refused number at) ⊎ (number ≡ 4) → StillRefused number at
+      byLength (inl same) = inl same
+      byLength (inr four) = inr (inr (inr four))
 
-      byKind : (unsignedRead sheet ≡ refused number at) ⊎ ((number ≡ 2) × (getD sheet at 0 ≡ 6)) →
-          (read sheet ≡ refused number at) ⊎ (((number ≡ 2) × (getD sheet at 0 ≡ 6)) ⊎ ((number ≡ 3) × AboveAt sheet at))
+      byStride : (shortRead sheet ≡ refused number at) ⊎ ((number ≡ 3) × AboveAt sheet at) → StillRefused number at
+      byStride (inl same) = byLength (still-refused-longer number at same)
+      byStride (inr negative) = inr (inr (inl negative))
+
+      byKind : (unsignedRead sheet ≡ refused number at) ⊎ ((number ≡ 2) × (getD sheet at 0 ≡ 6)) → StillRefused number at
       byKind (inl same) = byStride (still-refused-signed number at same)
       byKind (inr six) = inr (inl six)

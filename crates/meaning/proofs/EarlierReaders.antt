@@ -13,18 +13,19 @@ use lib.ListN.{length, getD, take, drop, replicate}
 use lib.Seq.{getD-drop, getD-take}
 use lib.Dec.{T, leb, ltb}
 use borrow.Author.Tests.{leb-true, leb-false, ltb-true, ltb-false, le-ltb, eq-eqb}
-use Rattle.meaning.specs.Limits.{recordLimit, constantHalf}
+use Rattle.meaning.specs.Limits.{constantHalf}
 use Rattle.meaning.specs.Number.{unsigned, unsigned16, signed16}
 use Rattle.meaning.specs.Form.{Form, value}
 use Rattle.meaning.specs.Record.{Kind, workKind, loopKind, endKind, choiceKind, nextArmKind, kindNumber, kindOf, bodyLength}
 use Rattle.meaning.specs.Record.{Loop, strideSize, countsDown, skipOr, skipCycles, Record, workRecord, loopRecord, endRecord, choiceRecord, nextArmRecord, kind}
 use Rattle.meaning.specs.Record.{decodeRecord, Open, fieldsInRange}
-use Rattle.meaning.specs.Reader.{Result, refused, require, orRefuse, andThen, Accepted, accept, readRecordOf, readFromOf, readRecord, read}
+use Rattle.meaning.specs.Reader.{Result, refused, require, orRefuse, andThen, Accepted, accept, readRecordOf, readFromOf, readRecord}
 use Rattle.meaning.specs.Time.{tripCount, trips, indexAt}
 use Rattle.meaning.specs.Range.{rangeUp, range, differenceRange, ceiling}
 use Rattle.meaning.specs.Closed.{pushOwn, askedDifference}
 use Rattle.meaning.specs.Converter.{changeLoop}
-use Rattle.meaning.specs.EarlierReaders.{firstKindOf, withStride, decodeUnsigned, firstRead, unsignedRead, LoopAsBefore, CountsUp, StrideAbove, ReadAsBefore}
+use Rattle.meaning.specs.EarlierReaders.{earlierRecordLimit, firstKindOf, withStride, decodeUnsigned, firstRead, unsignedRead, shortRead, LoopAsBefore, CountsUp}
+use Rattle.meaning.specs.EarlierReaders.{StrideAbove, ReadAsBefore}
 use Rattle.meaning.proofs.Logic.{true→T, none-is-not-some, require-no, andThen-no}
 use Rattle.meaning.proofs.Accepted.{kind-decodeRecord, loop-in-range}
 use Rattle.meaning.proofs.RecordBytes.{kindNumber-kindOf}
@@ -34,6 +35,7 @@ use Rattle.meaning.proofs.StrideFields.{stride-lower}
 use Rattle.meaning.proofs.Skips.{entry-start}
 use Rattle.meaning.proofs.WaysBack.{no-skip}
 use Rattle.meaning.proofs.AlikeReaders.{alike-from, each-record, each-at}
+use Rattle.meaning.proofs.LongerSheets.{alike-longer, shorter-read, longer-refused}
 
 -- ---- kinds
 
@@ -261,15 +263,18 @@ module _ (sheet : List ℕ) where
       (hasSkip, ap kindOf (sym first) ∙ e, subst (λ (n : ℕ). 64536 ≤ n) field large)
 
 pub read-as-before : (sheet : List ℕ) → ReadAsBefore sheet
-unfolding firstRead unsignedRead read
+unfolding firstRead unsignedRead shortRead
 read-as-before sheet = record {
-  alike = fromStart (alike-from 2 BeginSix firstKindOf kindOf decodeUnsigned decodeUnsigned record-alike recordLimit 0 [] sheet);
-  alikeSigned = signedFromStart (alike-from 3 BeginAbove kindOf kindOf decodeUnsigned decodeRecord record-signed recordLimit 0 [] sheet);
+  alike = fromStart (alike-from 2 BeginSix firstKindOf kindOf decodeUnsigned decodeUnsigned record-alike earlierRecordLimit 0 [] sheet);
+  alikeSigned = signedFromStart (alike-from 3 BeginAbove kindOf kindOf decodeUnsigned decodeRecord record-signed earlierRecordLimit 0 [] sheet);
+  alikeLonger = alike-longer sheet;
+  shorter = shorter-read sheet;
+  longer = longer-refused sheet;
   loops = λ before after l e. loop-as-before l (no-skip l (each-at (λ r. ¬ (kind r ≡ loopKind true)) before after (loopRecord l)
       (each-record firstKindOf decodeUnsigned (λ r. ¬ (kind r ≡ loopKind true)) (λ k c body known kindIs. first-kind k c known (sym (kind-unsigned c body) ∙ kindIs))
-      recordLimit 0 [] sheet (before ++ (loopRecord l ∷ after)) e)));
+      earlierRecordLimit 0 [] sheet (before ++ (loopRecord l ∷ after)) e)));
   loopsUp = λ before after l e. unfold LoopUp in
-      each-at LoopUp before after (loopRecord l) (each-record kindOf decodeUnsigned LoopUp (λ k c body known. unsigned-up c body) recordLimit 0 [] sheet (before ++ (loopRecord l ∷ after)) e);
+      each-at LoopUp before after (loopRecord l) (each-record kindOf decodeUnsigned LoopUp (λ k c body known. unsigned-up c body) earlierRecordLimit 0 [] sheet (before ++ (loopRecord l ∷ after)) e);
 }
   where
     fromStart : (firstRead sheet ≡ unsignedRead sheet) ⊎ ((i : ℕ) × (firstRead sheet ≡ refused 2 (0 + i)) × BeginSix (drop i sheet)) →
@@ -277,8 +282,8 @@ read-as-before sheet = record {
     fromStart (inl e) = inl e
     fromStart (inr (i, e, six)) = inr (i, e ∙ ap (refused 2) (zero-add i), begins-six sheet i six)
 
-    signedFromStart : (unsignedRead sheet ≡ read sheet) ⊎ ((i : ℕ) × (unsignedRead sheet ≡ refused 3 (0 + i)) × BeginAbove (drop i sheet)) →
-        (unsignedRead sheet ≡ read sheet) ⊎ ((at : ℕ) × (unsignedRead sheet ≡ refused 3 at) × StrideAbove sheet at)
+    signedFromStart : (unsignedRead sheet ≡ shortRead sheet) ⊎ ((i : ℕ) × (unsignedRead sheet ≡ refused 3 (0 + i)) × BeginAbove (drop i sheet)) →
+        (unsignedRead sheet ≡ shortRead sheet) ⊎ ((at : ℕ) × (unsignedRead sheet ≡ refused 3 at) × StrideAbove sheet at)
     signedFromStart (inl e) = inl e
     signedFromStart (inr (i, e, told)) = inr (i, e ∙ ap (refused 3) (zero-add i), begins-above sheet i told)
 

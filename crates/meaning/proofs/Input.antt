@@ -1,23 +1,21 @@
 -- At most inputLimit bytes of the program's input matter: those of the header, of the longest sheet, and one byte more.
 use mathlib.Core.Path.{_≡_, refl, sym, ap, _∙_, fun-ext}
 use mathlib.Core.List.{List, [], _∷_}
-use mathlib.Core.Bool.{Bool, cond, _&&_}
+use mathlib.Core.Bool.{Bool, cond}
 use Prim.Native.Nat.{ℕ, zero, suc, _+_, _*_, _-_, _≤_, _<_}
 use native.Mathlib.Nat.{suc-sub-suc, sub-zero, zero-sub}
 use native.Mathlib.Omega.{arith}
-use lib.IntN.{ℤ}
 use lib.ListN.{length, getD, take, drop, length-take}
 use lib.Seq.{take-take, take-nil, getD-take}
 use lib.Dec.{leb, ltb, leb→le, le→leb, ltb→lt, lt→ltb}
-use Rattle.meaning.specs.Limits.{recordLimit, bodyLimit, recordLengthLimit, constantHalf, budgetLimit, headerLength, inputLimit}
+use Rattle.meaning.specs.Limits.{recordLimit, bodyLimit, recordLengthLimit, constantHalf, headerLength, inputLimit}
 use Rattle.meaning.specs.Number.{unsigned, decodeSigned, unsigned16, signed16}
 use Rattle.meaning.specs.Record.{Kind, kindOf, bodyLength, Record, kind, recordLength, decodeRecord, Open}
 use Rattle.meaning.specs.Reader.{readFromOf, readRecordOf, Result, ok, require, orRefuse, andThen, Accepted, accept, readRecord, readFrom, read}
-use Rattle.meaning.specs.Tree.{tree}
-use Rattle.meaning.specs.Report.{firstOverCeiling}
-use Rattle.meaning.specs.Answer.{sheetReports, checkCeilings, accepted, figuresOf, checkVisits, answer}
-use Rattle.meaning.specs.Program.{refusedLine, answerText, inputParameters, inputBudget, inputSheet, reportsOf, programText}
+use Rattle.meaning.specs.Answer.{answer}
+use Rattle.meaning.specs.Program.{refusedLine, answerText, inputParameters, inputBudget, inputSheet, reportsOf, programText, programTextBy}
 use Rattle.meaning.proofs.RecordBytes.{bodyLength-bound}
+use Rattle.meaning.proofs.Answers.{answer-of-reading}
 use Rattle.meaning.proofs.Logic.{same-truth}
 
 -- ---- a part of a list that is longer than what is looked at
@@ -78,14 +76,6 @@ read-take sheet = readFrom-take recordLimit sheetLimit 0 [] sheet (omega arith)
 
 -- ---- the program
 
--- the answer depends on the sheet only by what the reader says of it
-answer-take : (sheet : List ℕ) (parameters : List ℤ) (budget : ℕ) → answer sheet parameters budget ≡ answer (take sheetLimit sheet) parameters budget
-unfolding answer accepted
-answer-take sheet parameters budget =
-    ap (λ (r : Result (List Record)). require (leb 1 budget && leb budget budgetLimit) 7 0
-    (andThen (andThen r λ rs. checkCeilings (firstOverCeiling (sheetReports parameters rs)) rs) λ rs. checkVisits budget (figuresOf parameters (tree rs))))
-    (read-take sheet)
-
 module _ (input : List ℕ) where
   header-take : ltb (length input) headerLength ≡ ltb (length (take inputLimit input)) headerLength
   header-take =
@@ -115,7 +105,7 @@ module _ (input : List ℕ) where
 
   -- what the program prints depends on the first inputLimit bytes alone
   pub programText-take : programText input ≡ programText (take inputLimit input)
-  unfolding programText
+  unfolding programTextBy
   programText-take =
       λ t. cond (header-take t) (refusedLine 1 0) (answerText (answers t) (reportsOf (parameters-take t) (readings t)))
     where
@@ -123,7 +113,9 @@ module _ (input : List ℕ) where
       short = take inputLimit input
 
       answers : answer (inputSheet input) (inputParameters input) (inputBudget input) ≡ answer (inputSheet short) (inputParameters short) (inputBudget short)
-      answers = answer-take (inputSheet input) (inputParameters input) (inputBudget input) ∙ (λ t. answer (sheet-take t) (parameters-take t) (budget-take t))
+      answers =
+          answer-of-reading read read (inputSheet input) (take sheetLimit (inputSheet input)) (inputParameters input) (inputBudget input) (read-take (inputSheet input))
+          ∙ (λ t. answer (sheet-take t) (parameters-take t) (budget-take t))
 
       readings : read (inputSheet input) ≡ read (inputSheet short)
       readings = read-take (inputSheet input) ∙ ap read sheet-take

@@ -55,6 +55,7 @@ pub mod WaysBack
 pub mod ConverterRefusals
 pub mod ConverterCalls
 pub mod AlikeReaders
+pub mod LongerSheets
 pub mod EarlierReaders
 pub mod EarlierReaderConsequences
 pub mod StrideFields

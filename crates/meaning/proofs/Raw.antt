@@ -14,7 +14,7 @@ use Rattle.meaning.specs.Record.{Kind, workKind, loopKind, endKind, choi
 use Rattle.meaning.specs.Record.{Loop, isGiven, skipWhere, skipOr, Record, workRecord, loopRecord, endRecord, choiceRecord, nextArmRecord, kind, recordLength, sheetBytes}
 use Rattle.meaning.specs.Record.{Open, fieldsInRange, openAfter}
 use Rattle.meaning.specs.Reader.{ok, orRefuse, Accepted, accept, endOfSheet, read}
-use Rattle.meaning.specs.Writer.{RawRecord, workFieldsZero, formZero, skipZero, loopFieldsZero, foreignFieldsZero, loopIn, recordOf, checkRecord, checkFrom, check}
+use Rattle.meaning.specs.Writer.{RawRecord, workFieldsZero, formZero, skipZero, loopFieldsZero, foreignFieldsZero, loopIn, recordOf, checkRecord, checkFrom, check, checkUpTo}
 use Rattle.meaning.proofs.Logic.{andThen-ok, require-ok, andThen-yes, require-yes, orRefuse-yes}
 use Rattle.meaning.proofs.Accepted.{accept-ok, accept-in-place, endOfSheet-ok, InPlace, WellFormed, read-well-formed}
 use Rattle.meaning.proofs.RecordBytes.{kindOf-kindNumber}
@@ -118,7 +118,7 @@ checkFrom-ok at os (e ∷ es) rs q =
     subst (λ (x : List Record). InPlace os x × (length x ≡ suc (length es))) same ((a .after, i .1, i .0, h .0), ap suc (h .1))
 
 pub check-well-formed : (es : List RawRecord) (count : ℕ) (rs : List Record) → check es count ≡ ok rs → WellFormed rs
-unfolding check
+unfolding checkUpTo
 check-well-formed es count rs q =
     let c = require-ok (leb count recordLimit) 4 0 _ rs q in
     let h = checkFrom-ok 0 [] (take count es) rs (c .1) in
@@ -144,7 +144,7 @@ checkFrom-in-place at os (r ∷ rs) (after, e, t, h) =
     andThen-yes _ (checkRecord-rawOf at os r ∙ accept-in-place at os after r t e) ∙ andThen-yes _ (checkFrom-in-place (at + recordLength r) after rs h)
 
 pub well-formed-checked : (rs : List Record) → WellFormed rs → check (map rawOf rs) (length rs) ≡ ok rs
-unfolding check
+unfolding checkUpTo
 well-formed-checked rs w =
     require-yes (leb (length rs) recordLimit) 4 0 _ (le→leb (length rs) recordLimit (w .short))
     ∙ ap (checkFrom 0 []) (take-all (length rs) (map rawOf rs) (omega (arith, length-map rs rawOf)))

@@ -11,7 +11,7 @@ use lib.Dec.{T, leb, leb→le}
 use Rattle.meaning.specs.Limits.{recordLimit, recordLengthLimit}
 use Rattle.meaning.specs.Record.{kindOf, bodyLength, Record, kind, recordLength, decodeRecord, sheetBytes, Open, fieldsInRange, openAfter}
 use Rattle.meaning.specs.Reader.{readFromOf, readRecordOf, Result, ok, refused, require, orRefuse, andThen, Accepted, accept, readRecord, endOfSheet, readFrom, read}
-use Rattle.meaning.specs.Writer.{RawRecord, foreignFieldsZero, recordOf, checkRecord, checkFrom, check, store, write, fitSheet}
+use Rattle.meaning.specs.Writer.{RawRecord, foreignFieldsZero, recordOf, checkRecord, checkFrom, check, checkUpTo, store, write, writeUpTo, fitSheet}
 use Rattle.meaning.proofs.Accepted.{readRecord-ok}
 use Rattle.meaning.proofs.RecordBytes.{recordLength-bound}
 
@@ -122,7 +122,7 @@ checkFrom-refusals at os (e ∷ es) n =
     (λ rs p. refusals-ok WriterRefusal _))
 
 check-refusals : (es : List RawRecord) (count : ℕ) → Refusals WriterRefusal (check es count)
-unfolding check
+unfolding checkUpTo
 check-refusals es count =
     refusals-require WriterRefusal (leb count recordLimit) 4 0 _ (omega arith) (λ t.
     checkFrom-refusals 0 [] (take count es) (omega (arith, leb→le count recordLimit t, length-take count es)))
@@ -134,7 +134,7 @@ store-result buffer (refused number place) h = h
 
 pub write-refusal : (es : List RawRecord) (count : ℕ) (buffer : List ℕ) (number place : ℕ) → write es count buffer .result ≡ refused number place →
     WriterRefusal number place
-unfolding write fitSheet
+unfolding writeUpTo fitSheet
 write-refusal es count buffer number place e =
     refusals-refused WriterRefusal (write es count buffer .result) number place
     (store-result buffer _ (refusals-andThen WriterRefusal (check es count) _ (check-refusals es count) (λ rs q.

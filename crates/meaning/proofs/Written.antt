@@ -8,7 +8,7 @@ use lib.Seq.{take-append-seam, drop-append-seam}
 use lib.Dec.{leb, leb→le, le→leb}
 use Rattle.meaning.specs.Record.{Record, sheetBytes}
 use Rattle.meaning.specs.Reader.{Result, ok, refused, require, read}
-use Rattle.meaning.specs.Writer.{RawRecord, check, store, write, fitSheet}
+use Rattle.meaning.specs.Writer.{RawRecord, check, store, write, writeUpTo, fitSheet}
 use Rattle.meaning.proofs.Logic.{refused-is-not-ok, andThen-ok, require-ok, andThen-yes, require-yes}
 use Rattle.meaning.proofs.Number.{Bytes}
 use Rattle.meaning.proofs.RoundTrip.{written-as-read}
@@ -35,7 +35,7 @@ store-ok buffer (refused number place) n e = refused-is-not-ok e
 
 pub write-ok : (es : List RawRecord) (count : ℕ) (buffer : List ℕ) (n : ℕ) → write es count buffer .result ≡ ok n →
     IsWritten es count buffer n (write es count buffer .buffer)
-unfolding write fitSheet
+unfolding writeUpTo fitSheet
 write-ok es count buffer n e =
     let s = store-ok buffer _ n e in
     let bytes : List ℕ = s .0 in
@@ -62,7 +62,7 @@ write-ok es count buffer n e =
 -- an accepted sheet is what the writer answers for its records, where the buffer is long enough
 pub write-read : (sheet : List ℕ) (rs : List Record) (buffer : List ℕ) → Bytes sheet → read sheet ≡ ok rs → length sheet ≤ length buffer →
     write (map rawOf rs) (length rs) buffer ≡ record { result = ok (length sheet); buffer = sheet ++ drop (length sheet) buffer }
-unfolding write store fitSheet
+unfolding writeUpTo store fitSheet
 write-read sheet rs buffer h e n =
     ap (store buffer) (andThen-yes _ (read-checked sheet rs e)
     ∙ ap (λ (x : List ℕ). require (leb (length x) (length buffer)) 9 0 (ok x)) (written-as-read sheet rs h e)
@@ -77,5 +77,5 @@ store-refused buffer (refused m p) number place e = refl
 
 pub write-refused : (es : List RawRecord) (count : ℕ) (buffer : List ℕ) (number place : ℕ) → write es count buffer .result ≡ refused number place →
     write es count buffer .buffer ≡ buffer
-unfolding write
+unfolding writeUpTo
 write-refused es count buffer number place e = store-refused buffer _ number place e

@@ -30,10 +30,6 @@ unfoldable pub checkCeilings : {A : Type 0} → Option ℕ → A → Result A
 checkCeilings none a = ok a
 checkCeilings (some offset) a = refused 6 offset
 
--- the records of a sheet that is not refused 1 to 6 at these parameters
-unfoldable pub accepted : List ℕ → List ℤ → Result (List Record)
-accepted sheet parameters = andThen (read sheet) λ rs. checkCeilings (firstOverCeiling (sheetReports parameters rs)) rs
-
 -- the sheet's figures: the time trip by trip, and the visits of its outermost loops, each entered once
 unfoldable pub figuresOf : List ℤ → Block → Figures
 figuresOf parameters b = figures (time parameters b [] .least) (time parameters b [] .most) (visits parameters b [] [])
@@ -42,8 +38,22 @@ figuresOf parameters b = figures (time parameters b [] .least) (time parameters 
 unfoldable pub checkVisits : ℕ → Figures → Result Figures
 checkVisits budget f = require (leb (f .visits) budget) 8 0 (ok f)
 
--- document 01: the library call, in the order 7, then 1 to 5, then 6, then 8
-unfoldable pub answer : List ℕ → List ℤ → ℕ → Result Figures
-answer sheet parameters budget =
-    require (leb 1 budget && leb budget budgetLimit) 7 0
-    (andThen (accepted sheet parameters) λ rs. checkVisits budget (figuresOf parameters (tree rs)))
+-- where a sheet is read so
+module _ (reader : List ℕ → Result (List Record)) where
+  -- the records of a sheet that is not refused 1 to 6 at these parameters
+  unfoldable pub acceptedBy : List ℕ → List ℤ → Result (List Record)
+  acceptedBy sheet parameters = andThen (reader sheet) λ rs. checkCeilings (firstOverCeiling (sheetReports parameters rs)) rs
+
+  -- 7, then 1 to 5, then 6, then 8
+  unfoldable pub answerBy : List ℕ → List ℤ → ℕ → Result Figures
+  answerBy sheet parameters budget =
+      require (leb 1 budget && leb budget budgetLimit) 7 0
+      (andThen (acceptedBy sheet parameters) λ rs. checkVisits budget (figuresOf parameters (tree rs)))
+
+-- by the reader that there is
+abbrev pub accepted : List ℕ → List ℤ → Result (List Record)
+accepted = acceptedBy read
+
+-- document 01: the library call
+abbrev pub answer : List ℕ → List ℤ → ℕ → Result Figures
+answer = answerBy read

@@ -20,6 +20,7 @@ pub mod Answer
 pub mod Converter
 pub mod Moved
 pub mod EarlierReaders
+pub mod EarlierWriter
 pub mod CCall
 pub mod Text
 pub mod ReasonLine

@@ -1,9 +1,9 @@
 -- The numbers of documents 01 and 02, each named once.
 use Prim.Native.Nat.{ℕ, _+_, _*_, _^_}
 
--- "The sheet": at most 64 records, loops 4 deep, 8 records open together
+-- "The sheet": loops 4 deep, 8 records open together; document 02, C-19: 128 records
 abbrev pub recordLimit : ℕ
-recordLimit = 64
+recordLimit = 128
 
 abbrev pub depthLimit : ℕ
 depthLimit = 4
@@ -60,7 +60,7 @@ lengthSize = 8
 
 -- "Time": every figure is below this
 abbrev pub figureLimit : ℕ
-figureLimit = 2 ^ 62
+figureLimit = 2 ^ 63
 
 -- demand 3: visits for each loop, where every loop is closed
 abbrev pub visitsPerLoop : ℕ
@@ -74,6 +74,6 @@ headerLength = 12
 abbrev pub inputLimit : ℕ
 inputLimit = headerLength + sheetLengthLimit + 1
 
--- a place in a sheet is below this, so that it has 16 bits where a plan or a reason holds it
+-- a place in a sheet is below this, so that it has 16 bits where a reason holds it
 abbrev pub offsetLimit : ℕ
 offsetLimit = 2 ^ 16

@@ -14,7 +14,7 @@ use Rattle.meaning.specs.Reader.{Result, ok, refused, read}
 use Rattle.meaning.specs.Closed.{LoopClass, closedClass, walkedClass}
 use Rattle.meaning.specs.Report.{LoopReport}
 use Rattle.meaning.specs.ReasonLine.{reasonLines}
-use Rattle.meaning.specs.Answer.{Figures, sheetReports, answer}
+use Rattle.meaning.specs.Answer.{Figures, sheetReports, answerBy}
 
 -- `best B worst W visits V`
 unfoldable pub figuresLine : Figures → List ℕ
@@ -61,8 +61,12 @@ unfoldable pub reportsOf : List ℤ → Result (List Record) → List LoopReport
 reportsOf parameters (ok rs) = sheetReports parameters rs
 reportsOf parameters (refused number place) = []
 
--- document 01: what `bound` prints; with less than a header, `refused 1 at 0`
-unfoldable pub programText : List ℕ → List ℕ
-programText input =
+-- what is printed where a sheet is read so; with less than a header, `refused 1 at 0`
+unfoldable pub programTextBy : (List ℕ → Result (List Record)) → List ℕ → List ℕ
+programTextBy reader input =
     cond (ltb (length input) headerLength) (refusedLine 1 0)
-    (answerText (answer (inputSheet input) (inputParameters input) (inputBudget input)) (reportsOf (inputParameters input) (read (inputSheet input))))
+    (answerText (answerBy reader (inputSheet input) (inputParameters input) (inputBudget input)) (reportsOf (inputParameters input) (reader (inputSheet input))))
+
+-- document 01: what `bound` prints
+abbrev pub programText : List ℕ → List ℕ
+programText = programTextBy read

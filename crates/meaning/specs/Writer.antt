@@ -78,9 +78,12 @@ checkFrom at os (r ∷ rs) =
     andThen (checkFrom (at + recordLength (a .accepted)) (a .after) rs) λ records.
     ok (a .accepted ∷ records)
 
--- 4 for a count above the limit, then record by record; entries past the count are not looked at
-unfoldable pub check : List RawRecord → ℕ → Result (List Record)
-check entries count = require (leb count recordLimit) 4 0 (checkFrom 0 [] (take count entries))
+-- where a sheet may have so many records: 4 for a count above it, then record by record; entries past the count are not looked at
+unfoldable pub checkUpTo : ℕ → List RawRecord → ℕ → Result (List Record)
+checkUpTo limit entries count = require (leb count limit) 4 0 (checkFrom 0 [] (take count entries))
+
+abbrev pub check : List RawRecord → ℕ → Result (List Record)
+check = checkUpTo recordLimit
 
 -- the writer's answer, and the buffer as it is left
 pub record Written : Type 0 where
@@ -95,6 +98,10 @@ store buffer (refused number place) = record { result = refused number place; bu
 unfoldable pub fitSheet : List ℕ → List Record → Result (List ℕ)
 fitSheet buffer records = let sheet : List ℕ = sheetBytes records in require (leb (length sheet) (length buffer)) 9 0 (ok sheet)
 
--- document 01: the writer, last 9
-unfoldable pub write : List RawRecord → ℕ → List ℕ → Written
-write entries count buffer = store buffer (andThen (check entries count) (fitSheet buffer))
+-- last 9
+unfoldable pub writeUpTo : ℕ → List RawRecord → ℕ → List ℕ → Written
+writeUpTo limit entries count buffer = store buffer (andThen (checkUpTo limit entries count) (fitSheet buffer))
+
+-- document 01: the writer
+abbrev pub write : List RawRecord → ℕ → List ℕ → Written
+write = writeUpTo recordLimit

@@ -1,5 +1,6 @@
 pub mod Roles
 pub mod Walks
+pub mod OpenNumbers
 pub mod Places
 pub mod RowsOf
 pub mod Openers

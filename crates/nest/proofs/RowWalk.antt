@@ -2,7 +2,7 @@
 use Rattle.meaning.specs.Tree.{empty}
 use mathlib.Core.List.{List, [], _∷_, _++_}
 use mathlib.Core.Path.{ap, ap₂, refl, subst, sym, _∙_, _≡_}
-use Prim.Native.Nat.{_%_, _+_, _-_, _<_, _^_, suc, ℕ, _≤_}
+use Prim.Native.Nat.{_%_, _+_, _-_, _<_, _^_, suc, ℕ, _≤_, _/_}
 use native.Mathlib.Omega.{arith}
 use native.Mathlib.Nat.{mod-eq-of-lt}
 use native.Mathlib.Numerals.{add-one}
@@ -18,9 +18,9 @@ use Rattle.sheet.specs.Nestings.{nestingOf, openAfterAs, openAfterKind}
 use Rattle.records.specs.View.{lengthOfKind}
 use Rattle.sheet.proofs.Openings.{depth-at-most}
 use Rattle.layout.specs.declared.rows.Row.{Row}
-use Rattle.layout.specs.Rows.{firstCost, roleNumber, roleOf, rowNumbers, secondCost, skipCost, rowFrom, rowWidth}
+use Rattle.layout.specs.Rows.{endNumbers, numberRoom, firstCost, roleNumber, roleOf, rowNumbers, secondCost, skipCost, rowFrom, rowWidth}
 use Rattle.layout.specs.Numbers.{joined, storedIn}
-use Rattle.layout.proofs.Reading.{blankRow, row-number, row-next}
+use Rattle.layout.proofs.Reading.{blankRow, row-number, row-next, enclosing-shared}
 use Rattle.layout.proofs.Storing.{stored-none}
 use Rattle.nest.specs.Known.{AtPosition, InnersKnown, RecordAt}
 use Rattle.nest.specs.Rows.{Position, endNumber, innermost, rowAt, rowsOf, sheetStart, rowsStored}
@@ -33,38 +33,9 @@ use Rattle.nest.proofs.Endings.{kind-read, offset-small, present, role-
 use Rattle.nest.proofs.Roles.{end-by-role, enclosing-by-role, loops-by-role, loops-more}
 use Rattle.nest.proofs.RowsOf.{end-inside, rows-length, row-at}
 use Rattle.nest.proofs.Places.{in-place-through, opens-in-place, opens-few}
+use Rattle.nest.proofs.OpenNumbers.{Below, below-through, below-first, below-rest, innermost-below}
 use Rattle.nest.proofs.Walks.{numbersThrough, opens-one-more, opensThrough, loops-append, loopsThrough, numbers-one-more, positionAfter}
 use mathlib.Core.Option.{Option, some}
-
--- the numbers of the open records are those of records before
-Below : ℕ → List ℕ → Type 0
-Below n [] = Unit {0}
-Below n (m ∷ ms) = (m < n) × Below n ms
-
-below-more : (n : ℕ) (ms : List ℕ) → Below n ms → Below (suc n) ms
-unfolding Below
-below-more n [] h = tt
-below-more n (m ∷ ms) h = (omega (arith, h .0), below-more n ms (h .1))
-
-below-after : (n : ℕ) (ms : List ℕ) (r : Record) → Below n ms → Below (suc n) (numbersAfter n ms r)
-unfolding Below numbersAfter
-below-after n ms (workRecord least most) h = below-more n ms h
-below-after n ms (loopRecord l) h = (omega arith, below-more n ms h)
-below-after n [] endRecord h = tt
-below-after n (m ∷ ms) endRecord h = below-more n ms (h .1)
-below-after n ms choiceRecord h = (omega arith, below-more n ms h)
-below-after n ms nextArmRecord h = below-more n ms h
-
-below-through : (xs : List Record) (n : ℕ) (ms : List ℕ) → Below n ms → Below (n + length xs) (numbersThrough n ms xs)
-unfolding numbersThrough
-below-through [] n ms h = subst (λ (m : ℕ). Below m ms) (let e : n ≡ n + 0 = omega arith in e) h
-below-through (x ∷ xs) n ms h =
-    subst (λ (m : ℕ). Below m (numbersThrough (suc n) (numbersAfter n ms x) xs)) (let e : suc n + length xs ≡ n + suc (length xs) = omega arith in e)
-    (below-through xs (suc n) (numbersAfter n ms x) (below-after n ms x h))
-
-below-first : (m : ℕ) (ms : List ℕ) (i n : ℕ) → Below i (m ∷ ms) → i ≤ n → m < n
-unfolding Below
-below-first m ms i n h e = omega (arith, h .0)
 
 opener-enclosing : (rowOf : ℕ → Row) (n : ℕ) (ms : List ℕ) (os : List Open) → OpenerRows rowOf (n ∷ ms) os → rowOf n .enclosing ≡ innermost ms
 unfolding OpenerRows
@@ -88,12 +59,14 @@ inners-known before rs n h few = record {
       let opener =
       subst (λ xs. OpenerRows (λ i. getD (rowsOf xs) i blankRow) (numbersThrough 0 [] (take n rs)) (opensThrough [] (take n rs))) (take-append-drop n rs)
       (open-rows (take n rs) (drop n rs) blankRow) in
-      let column : getD (rowNumbers (getD (take (n + 1) (rowsOf rs)) m blankRow)) 4 0 ≡ getD (take (n + 1) (rowsOf rs)) m blankRow .enclosing =
-      (unfold rowNumbers in refl) in
-      row-number before (take (n + 1) (rowsOf rs)) m 4 (omega arith) (omega arith) (omega arith)
-      ∙ column ∙ ap (λ (r : Row). r .enclosing) (getD-take (n + 1) (rowsOf rs) m blankRow (omega arith))
+      let row : Row = getD (take (n + 1) (rowsOf rs)) m blankRow in
+      let enclosing : row .enclosing ≡ innermost ms =
+      ap (λ (r : Row). r .enclosing) (getD-take (n + 1) (rowsOf rs) m blankRow (omega arith))
       ∙ opener-enclosing (λ i. getD (rowsOf rs) i blankRow) m ms (opensThrough [] (take n rs))
-      (subst (λ xs. OpenerRows (λ i. getD (rowsOf rs) i blankRow) xs (opensThrough [] (take n rs))) e opener);
+      (subst (λ xs. OpenerRows (λ i. getD (rowsOf rs) i blankRow) xs (opensThrough [] (take n rs))) e opener) in
+      let shared : getD (rowNumbers row) 3 0 ≡ endNumbers row = (unfold rowNumbers in refl) in
+      ap (λ (x : ℕ). x / numberRoom) (row-number before (take (n + 1) (rowsOf rs)) m 3 (omega arith) (omega arith) (omega arith) ∙ shared)
+      ∙ enclosing-shared row (omega (arith, enclosing, innermost-below (0 + length (take n rs)) ms (below-rest m ms (0 + length (take n rs)) below))) ∙ enclosing;
 }
 
 -- ---- one row

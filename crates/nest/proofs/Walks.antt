@@ -94,6 +94,15 @@ unfolding loopsThrough
 loops-append [] ys n = refl
 loops-append (x ∷ xs) ys n = loops-append xs ys (loopsAfter n x)
 
+pub loops-at-most : (rs : List Record) (n : ℕ) → loopsThrough n rs ≤ n + length rs
+unfolding loopsThrough loopsAfter
+loops-at-most [] n = omega arith
+loops-at-most (workRecord least most ∷ rs) n = omega (arith, loops-at-most rs n)
+loops-at-most (loopRecord l ∷ rs) n = omega (arith, loops-at-most rs (suc n))
+loops-at-most (endRecord ∷ rs) n = omega (arith, loops-at-most rs n)
+loops-at-most (choiceRecord ∷ rs) n = omega (arith, loops-at-most rs n)
+loops-at-most (nextArmRecord ∷ rs) n = omega (arith, loops-at-most rs n)
+
 pub loops-grow : (rs : List Record) (n : ℕ) → n ≤ loopsThrough n rs
 unfolding loopsThrough loopsAfter
 loops-grow [] n = omega arith

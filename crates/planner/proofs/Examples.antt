@@ -1,14 +1,14 @@
 -- The plans of some of document 01's sheets with known figures and of three more, from raw bytes, number by number.
 use mathlib.Core.Path.{_≡_, refl}
 use mathlib.Core.List.{List, [], _∷_}
-use Prim.Native.Nat.{ℕ, _-_, _^_}
+use Prim.Native.Nat.{ℕ, _-_, _^_, _+_, _*_}
 use lib.ListN.{length}
 use Rattle.whole.specs.Integer.{floorRemainder}
 use Rattle.meaning.specs.Reader.{Result, ok, refused}
 use Rattle.meaning.proofs.Vocabulary.{hex, zeroParameters}
 use Rattle.meaning.proofs.Computes.{computes}
 use Rattle.layout.specs.Numbers.{joined}
-use Rattle.layout.specs.Rows.{roleNumber, roleOfKind, roleOf, firstCost, secondCost, skipCost, rowNumbers}
+use Rattle.layout.specs.Rows.{roleNumber, roleOfKind, roleOf, firstCost, secondCost, skipCost, endNumbers, depthNumbers, placeNumbers, rowNumbers}
 use Rattle.layout.specs.Loops.{wordOf, differenceWords, factNumbers}
 use Rattle.nest.specs.Walk.{opensAfter, numbersAfter, loopsAfter, recordsInside}
 use Rattle.nest.specs.Rows.{endNumber, innermost, onward, rowAt, rowsFrom, rowsOf, rowsStored}
@@ -19,7 +19,7 @@ use Rattle.planner.specs.Plan.{limitsStored, sheetPlans, Plan, planOfRec
 
 -- Unfolding this unfolds every definition of the plan.
 unfoldable planComputes : Unit {0}
-unfolding computes floorRemainder joined roleNumber roleOfKind roleOf firstCost secondCost skipCost rowNumbers wordOf differenceWords factNumbers
+unfolding computes floorRemainder joined roleNumber roleOfKind roleOf firstCost secondCost skipCost endNumbers depthNumbers placeNumbers rowNumbers wordOf differenceWords factNumbers
     opensAfter numbersAfter loopsAfter recordsInside endNumber innermost onward rowAt rowsFrom rowsOf rowsStored
     withoutLast leave choiceDepth enter enclosingAfter wordsOf factOf loopFacts factsAt factsFrom sheetFacts loopsIn wordsStored factsStored
     someUneven prevents somePrevents heightAbove limitAmong planAt plansFrom limitsStored sheetPlans planOfRecords planOf
@@ -29,7 +29,7 @@ planComputes = tt
 -- its cost with no trip
 abbrev row : ℕ → ℕ → ℕ → ℕ → ℕ → ℕ → ℕ → ℕ → ℕ → ℕ → List ℕ
 row role first second end around frame depth loops offset skip =
-    role ∷ first ∷ second ∷ end ∷ around ∷ frame ∷ depth ∷ loops ∷ offset ∷ skip ∷ []
+    first ∷ second ∷ skip ∷ (end + 128 * around) ∷ (loops + 128 * (frame + 8 * depth)) ∷ (offset + 4096 * role) ∷ []
 
 -- a loop's stride, its D where every counter is 0, and what a trip of the first, second and third loop around it adds to D
 abbrev words : ℕ → ℕ → ℕ → ℕ → ℕ → List ℕ

@@ -10,7 +10,7 @@ use lib.Dec.{ltb}
 use lib.IntN.{ℤ}
 use Rattle.meaning.specs.Record.{Record}
 use Rattle.meaning.specs.Reader.{Result, andThen, ok, read, refused}
-use Rattle.meaning.specs.Answer.{accepted, checkCeilings, sheetReports, answer}
+use Rattle.meaning.specs.Answer.{acceptedBy, checkCeilings, sheetReports, answer}
 use Rattle.meaning.specs.Report.{firstOverCeiling}
 use Rattle.meaning.proofs.Logic.{refused-is-not-ok}
 use Rattle.sheet.specs.declared.reader.ReadAnswer.{ReadAnswer}
@@ -57,12 +57,12 @@ module _ (sheet : List ℕ) (ps : List ℤ) where
 
   -- of a sheet that is refused
   pub plan-unread : {number place : ℕ} → read sheet ≡ refused number place → (planOf sheet ps ≡ refused number place) × (recordsOf sheet ≡ [])
-  unfolding planOf accepted andThen recordsOf recordsIn
+  unfolding planOf acceptedBy andThen recordsOf recordsIn
   plan-unread e =
       (ap (λ (x : Result (List Record)). andThen (andThen x (λ rs. checkCeilings (firstOverCeiling (sheetReports ps rs)) rs)) (λ rs. ok (planOfRecords ps rs))) e, ap recordsIn e)
 
   plan-read : read sheet ≡ ok (recordsOf sheet) → planOf sheet ps ≡ checkCeilings over (planOfRecords ps (recordsOf sheet))
-  unfolding planOf accepted andThen
+  unfolding planOf acceptedBy andThen
   plan-read e =
       ap (λ (x : Result (List Record)). andThen (andThen x (λ rs. checkCeilings (firstOverCeiling (sheetReports ps rs)) rs)) (λ rs. ok (planOfRecords ps rs))) e
       ∙ checkCeilings-then (firstOverCeiling (sheetReports ps (recordsOf sheet))) (recordsOf sheet) (planOfRecords ps)

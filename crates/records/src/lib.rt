@@ -20,7 +20,7 @@ pub const NEXT_ARM: u8 = 5;
 // A loop with a skip of its own.
 pub const SKIP_LOOP: u8 = 6;
 
-pub const MAX_RECORDS: usize = 64;
+pub const MAX_RECORDS: usize = 128;
 
 pub const MAX_OPEN: usize = 8;
 

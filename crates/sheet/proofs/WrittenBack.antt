@@ -9,7 +9,7 @@ use lib.Seq.{take-at, take-all}
 use Rattle.meaning.specs.Limits.{recordLimit}
 use Rattle.meaning.specs.Record.{kindNumber, workRecord, loopRecord, endRecord, choiceRecord, nextArmRecord}
 use Rattle.meaning.specs.Reader.{Result, ok, require, andThen, read}
-use Rattle.meaning.specs.Writer.{RawRecord, checkFrom, check, store, write, fitSheet}
+use Rattle.meaning.specs.Writer.{RawRecord, checkFrom, check, checkUpTo, store, write, writeUpTo, fitSheet}
 use Rattle.meaning.specs.Record as M
 use Rattle.meaning.proofs.Number.{Bytes}
 use Rattle.meaning.proofs.Raw.{zeroForm, rawWithout, rawOf}
@@ -34,7 +34,7 @@ raws-in (r ∷ rs) = λ i. raw-in r i ∷ raws-in rs i
 
 -- entries past the count are not looked at
 by-front : (es fs : List RawRecord) (n : ℕ) → take n es ≡ take n fs → check es n ≡ check fs n
-unfolding check
+unfolding checkUpTo
 by-front es fs n e = ap (λ (l : List RawRecord). require (leb n recordLimit) 4 0 (checkFrom 0 [] l)) e
 
 pub bytes-all : (bs : List ℕ) → ((i : ℕ) → getD bs i 0 < 256) → Bytes bs
@@ -58,7 +58,7 @@ checked-without-blanks rs {records} is =
 pub written-back : (sheet : List ℕ) → Bytes sheet → {records : List Record} {count : Result ℕ} → count ≡ counted (read sheet)
     → records ≡ withBlanks (read sheet) → (n : ℕ) (buffer : List ℕ) → count ≡ ok n → length sheet ≤ length buffer
     → write (map rawRecordOf records) n buffer ≡ store buffer (ok sheet)
-unfolding store write
+unfolding store writeUpTo
 written-back sheet bytes {records} {count} c l n buffer q room =
     let k = counted-ok (read sheet) n (sym c ∙ q) in
     let rs : List M.Record = k .0 in

@@ -122,7 +122,7 @@ fn decode_all(sheet: &[u8], count: usize) -> Records
     records
 }
 
-// Reads a sheet's records. Writing them again gives back the sheet, and a sheet without kind 6 is read as it was before there was one.
+// Reads a sheet's records. Writing them again gives back the sheet, and a sheet that an earlier reader read is read as before.
 pub fn read_sheet(sheet: &[u8]) -> RecordsRead
     ensures answer { λ r. ⌜ countResult (r .answer) ≡ counted (read (now (sheet .entry))) ⌝ }
     ensures records { λ r. ⌜ r .records ≡ withBlanks (read (now (sheet .entry))) ⌝ }

@@ -9,7 +9,8 @@ ghost use lib.ListN.{length, take, drop, replicate};
 ghost use Rattle.meaning.specs.Limits.{inputLimit};
 ghost use Rattle.meaning.specs.Reader.{read};
 ghost use Rattle.meaning.specs.Answer.{answer};
-ghost use Rattle.meaning.specs.Program.{answerText, inputBudget, inputParameters, inputSheet, programText, reportsOf};
+ghost use Rattle.meaning.specs.Program.{answerText, inputBudget, inputParameters, inputSheet, programText, programTextBy, reportsOf};
+ghost use Rattle.meaning.specs.EarlierReaders.{shortRead, UnlessTooLong};
 ghost use Rattle.meaning.specs.ReasonsTold.{ReasonsTold};
 ghost use Rattle.encoding.specs.Append.{Appended};
 ghost use Rattle.text.specs.Limits.{textLimit};
@@ -74,6 +75,7 @@ pub fn program_text(input: &[u8], buffer: &mut Text) -> usize
     ensures bytes { λ _. ⌜ now (buffer .exit) ≡ programText (now (input .entry)) ++ drop (length (programText (now (input .entry)))) (now (buffer .entry)) ⌝ }
     ensures fits { λ r. ⌜ (r ≤ textLimit) × (length (now (buffer .exit)) ≡ textLimit) ⌝ }
     ensures reasons { λ _. ⌜ ReasonsTold (inputParameters (now (input .entry))) (read (inputSheet (now (input .entry)))) ⌝ }
+    ensures before { λ _. ⌜ UnlessTooLong (inputSheet (now (input .entry))) (programText (now (input .entry)) ≡ programTextBy shortRead (now (input .entry))) ⌝ }
     ensures cut { λ _. ⌜ programText (now (input .entry)) ≡ programText (take inputLimit (now (input .entry))) ⌝ }
 {
     if input.len() < HEADER_LENGTH {

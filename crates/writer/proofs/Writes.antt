@@ -11,9 +11,11 @@ use borrow.Author.Tests.{le-leb, lt-leb}
 use Rattle.meaning.specs.Limits.{recordLimit, sheetLengthLimit}
 use Rattle.meaning.specs.Record.{sheetLength, sheetBytes}
 use Rattle.meaning.specs.Reader.{Result, ok, refused, require, andThen, read}
-use Rattle.meaning.specs.Writer.{Written, checkFrom, check, store, fitSheet, write}
+use Rattle.meaning.specs.EarlierWriter.{WrittenAsBefore}
+use Rattle.meaning.specs.Writer.{Written, checkFrom, checkUpTo, store, fitSheet, write, writeUpTo}
 use Rattle.meaning.specs.Record as M
 use Rattle.meaning.proofs.Logic.{refused-is-not-ok, ok-injective, require-ok, require-yes}
+use Rattle.meaning.proofs.LongerSheets.{written-as-before}
 use Rattle.meaning.proofs.Written.{write-ok}
 use Rattle.encoding.specs.Append.{Appended}
 use Rattle.encoding.proofs.Appending.{from-start, length-written}
@@ -51,19 +53,19 @@ module _ (records : List Record) (count : ℕ) (buffer : List ℕ) where
 
   -- what the writer's contract promises of an answer and of the buffer as it is left
   abbrev Promised : Result ℕ → List ℕ → Type 0
-  Promised r left = (r ≡ outcome .result) × ((left ≡ outcome .buffer) × ((n : ℕ) → r ≡ ok n → Undone left n))
+  Promised r left = (r ≡ outcome .result) × ((left ≡ outcome .buffer) × (((n : ℕ) → r ≡ ok n → Undone left n) × WrittenAsBefore (map rawRecordOf records) count buffer))
 
   refusal : {number place : ℕ} → outcome ≡ store buffer (refused number place) → Promised (refused number place) buffer
   unfolding store
-  refusal e = (sym (ap (λ (w : Written). w .result) e), (sym (ap (λ (w : Written). w .buffer) e), λ n q. refused-is-not-ok q))
+  refusal e = (sym (ap (λ (w : Written). w .result) e), (sym (ap (λ (w : Written). w .buffer) e), (λ n q. refused-is-not-ok q, written-as-before (map rawRecordOf records) count buffer)))
 
   pub too-many : recordLimit < count → Promised (refused 4 0) buffer
-  unfolding write check require andThen
+  unfolding writeUpTo checkUpTo require andThen
   too-many h = refusal (ap (λ (b : Bool). store buffer (andThen (require b 4 0 whole) (fitSheet buffer))) (lt-leb count recordLimit h))
 
   module _ (few : count ≤ recordLimit) where
     with-check : {x : Result (List M.Record)} → whole ≡ x → outcome ≡ store buffer (andThen x (fitSheet buffer))
-    unfolding write check
+    unfolding writeUpTo checkUpTo
     with-check e =
         ap (λ (y : Result (List M.Record)). store buffer (andThen y (fitSheet buffer))) (require-yes (leb count recordLimit) 4 0 whole (le→leb count recordLimit few) ∙ e)
 
@@ -120,7 +122,7 @@ module _ (records : List Record) (count : ℕ) (buffer : List ℕ) where
               from-start copied ∙ ap (λ (l : List ℕ). l ++ drop (length l) buffer) part-is ∙ sym (ap (λ (w : Written). w .buffer) stored)
 
           undone : (j : ℕ) → ok m ≡ ok j → Undone left j
-          unfolding check counted withBlanks recordsIn
+          unfolding checkUpTo counted withBlanks recordsIn
           undone j q =
               let w = write-ok (map rawRecordOf records) count buffer j (sym answer-is ∙ q) in
               let checked : whole ≡ ok (w .written) = require-ok (leb count recordLimit) 4 0 whole (w .written) (w .checked) .1 in
@@ -131,4 +133,4 @@ module _ (records : List Record) (count : ℕ) (buffer : List ℕ) where
               (ap counted back ∙ ap {B = Result ℕ} ok same, ap withBlanks back ∙ (λ i. given i ++ replicate (recordLimit - same i) (blankRecord 0)))
 
           pub written : Promised (ok m) left
-          written = (answer-is, (left-is, undone))
+          written = (answer-is, (left-is, (undone, written-as-before (map rawRecordOf records) count buffer)))

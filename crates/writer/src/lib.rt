@@ -12,6 +12,7 @@ ghost use Rattle.meaning.specs.Limits.{recordLimit, recordLengthLimit, sheetLen
 ghost use Rattle.meaning.specs.Record as M;
 ghost use Rattle.meaning.specs.Record.{Kind, kindOf, Open};
 ghost use Rattle.meaning.specs.Reader.{ok, Accepted, read};
+ghost use Rattle.meaning.specs.EarlierWriter.{WrittenAsBefore};
 ghost use Rattle.meaning.specs.Writer.{loopFieldsZero, foreignFieldsZero, checkRecord, checkFrom, write};
 ghost use Rattle.records.specs.View.{blankRecord, rawRecordOf};
 ghost use Rattle.sheet.specs.Nestings.{nestingOf};
@@ -147,13 +148,15 @@ fn lay_out(records: Records, count: usize, sheet: &mut [u8]) -> WriteAnswer
     WriteAnswer::Length(at)
 }
 
-// Writes the sheet of the first `count` records. The buffer changes only where no refusal falls: the sheet is laid out apart from it first.
+// Writes the sheet of the first `count` records. The buffer changes only where no refusal falls: the sheet is laid out apart from it first. What
+// could be written before there were longer sheets is written as before.
 pub fn write_sheet(records: Records, count: usize, buffer: &mut [u8]) -> WriteAnswer
     ensures answer { λ r. ⌜ writeResult r ≡ write (map rawRecordOf records) count (now (buffer .entry)) .result ⌝ }
     ensures bytes { λ _. ⌜ now (buffer .exit) ≡ write (map rawRecordOf records) count (now (buffer .entry)) .buffer ⌝ }
     ensures undone { λ r. ⌜ ((n : ℕ) → writeResult r ≡ ok n →
         (counted (read (take n (now (buffer .exit)))) ≡ ok count)
         × (withBlanks (read (take n (now (buffer .exit)))) ≡ take count records ++ replicate (recordLimit - count) (blankRecord 0))) ⌝ }
+    ensures before { λ _. ⌜ WrittenAsBefore (map rawRecordOf records) count (now (buffer .entry)) ⌝ }
 {
     if MAX_RECORDS < count {
         return WriteAnswer::Refused(Refusal {

@@ -3,6 +3,7 @@ use mathlib.Core.Path.{refl}
 use mathlib.Core.Bool.{false}
 use Rattle.meaning.specs.Converter.{recordsWithoutSkips, withoutSkips, withSkips}
 use Rattle.meaning.proofs.Converters.{without-skips-same}
+use Rattle.meaning.proofs.LongerSheets.{without-skips-alike}
 use Rattle.meaning.proofs.WaysBack.{without-skips-turned}
 use Rattle.sheet.proofs.WrittenBack.{bytes-all}
 use Rattle.converter.specs.Converting.{changedFrom, newRecords}
@@ -25,8 +26,9 @@ returns c =
     let sheet = known .before .args .sheet .now in
     let buffer = known .before .args .buffer .now in
     let bytes = bytes-all sheet (λ i. known .shared-slice-known .given i .fits) in
-    promised false withSkips sheet (λ n a. without-skips-same sheet buffer n a) (λ n a. without-skips-turned sheet buffer n bytes a) refl
-    (stored .store .ensures .0) (stored .store .ensures .1)
+    let p = promised false withSkips sheet (λ n a. without-skips-same sheet buffer n a) (λ n a. without-skips-turned sheet buffer n bytes a) refl
+    (stored .store .ensures .0) (stored .store .ensures .1) in
+    (p .0, (p .1 .0, (p .1 .1 .0, (p .1 .1 .1, without-skips-alike sheet buffer))))
 
 pub without-skips-spec : {M : Type 1} → statement M
 without-skips-spec = tie.close (tie.spec store-requires same-length returns)

@@ -2,6 +2,7 @@
 use mathlib.Core.Bool.{true}
 use Rattle.meaning.specs.Converter.{recordsWithSkips, withSkips, withoutSkips}
 use Rattle.meaning.specs.ConverterCall.{withSkipsCall}
+use Rattle.meaning.proofs.LongerSheets.{with-skips-alike}
 use Rattle.meaning.proofs.WaysBack.{with-skips-turned}
 use Rattle.meaning.proofs.ConverterCalls.{with-skips-call}
 use Rattle.sheet.proofs.WrittenBack.{bytes-all}
@@ -27,9 +28,10 @@ returns c =
     let known = store .before .before .before .before .before in
     let a = known .before .args in
     let bytes = bytes-all (a .sheet .now) (λ i. known .shared-slice-known .given i .fits) in
-    promised (recordsWithSkips (a .sheet .now)) true withoutSkips (a .sheet .now) (a .target .now) (a .answer .now)
+    let p = promised (recordsWithSkips (a .sheet .now)) true withoutSkips (a .sheet .now) (a .target .now) (a .answer .now)
     (with-skips-call (a .sheet .now) (a .target .now) (a .answer .now)) (λ n e. with-skips-turned (a .sheet .now) (a .target .now) n bytes e)
-    (store .store-sheet .ensures)
+    (store .store-sheet .ensures) in
+    (p .0, (p .1 .0, (p .1 .1 .0, (p .1 .1 .1 .0, (p .1 .1 .1 .1, with-skips-alike (a .sheet .now) (a .target .now))))))
 
 pub pumdalin-with-skips-spec : {M : Type 1} → statement M
 pumdalin-with-skips-spec = tie.close (tie.spec store-sheet-requires same-length same-length-2 returns)

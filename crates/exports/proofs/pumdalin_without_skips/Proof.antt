@@ -2,6 +2,7 @@
 use mathlib.Core.Bool.{false}
 use Rattle.meaning.specs.Converter.{recordsWithoutSkips, withoutSkips, withSkips}
 use Rattle.meaning.specs.ConverterCall.{withoutSkipsCall}
+use Rattle.meaning.proofs.LongerSheets.{without-skips-alike}
 use Rattle.meaning.proofs.WaysBack.{without-skips-turned}
 use Rattle.meaning.proofs.ConverterCalls.{without-skips-call}
 use Rattle.sheet.proofs.WrittenBack.{bytes-all}
@@ -27,9 +28,10 @@ returns c =
     let known = store .before .before .before .before .before in
     let a = known .before .args in
     let bytes = bytes-all (a .sheet .now) (λ i. known .shared-slice-known .given i .fits) in
-    promised (recordsWithoutSkips (a .sheet .now)) false withSkips (a .sheet .now) (a .target .now) (a .answer .now)
+    let p = promised (recordsWithoutSkips (a .sheet .now)) false withSkips (a .sheet .now) (a .target .now) (a .answer .now)
     (without-skips-call (a .sheet .now) (a .target .now) (a .answer .now)) (λ n e. without-skips-turned (a .sheet .now) (a .target .now) n bytes e)
-    (store .store-sheet .ensures)
+    (store .store-sheet .ensures) in
+    (p .0, (p .1 .0, (p .1 .1 .0, (p .1 .1 .1 .0, (p .1 .1 .1 .1, without-skips-alike (a .sheet .now) (a .target .now))))))
 
 pub pumdalin-without-skips-spec : {M : Type 1} → statement M
 pumdalin-without-skips-spec = tie.close (tie.spec store-sheet-requires same-length same-length-2 returns)

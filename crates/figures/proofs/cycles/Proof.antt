@@ -4,6 +4,7 @@ use mathlib.Core.Logic.{inl, inr, ⊎-elim}
 use native.Mathlib.Omega.{arith}
 use borrow.Author.Tests.{ltb-true, ltb-false}
 use Rattle.meaning.proofs.Answers.{BudgetInRange, BudgetOutOfRange, answer-out-of-range, answer-refused}
+use Rattle.meaning.proofs.LongerSheets.{answered-alike}
 use Rattle.planner.proofs.Planned.{planned-count, planned-refused}
 use Rattle.planner.proofs.Parameters.{small-parameters}
 use Rattle.figures.specs.Demand.{Answered}
@@ -18,7 +19,8 @@ unfolding Answered
 returns c =
     let a = c .before .before .args in
     let out : BudgetOutOfRange (a .budget) = ⊎-elim (λ w. inl (w .taken)) (λ w. inr (ltb-true _ _ (w .1 .taken))) (c .if1 .came) in
-    (sym (answer-out-of-range (a .sheet .now) (a .parameters) (a .budget) out), tt)
+    let answers = sym (answer-out-of-range (a .sheet .now) (a .parameters) (a .budget) out) in
+    (answers, (tt, answered-alike (a .sheet .now) (a .parameters) (a .budget) _ answers))
 
 plan-requires : tie.Need-plan-requires
 plan-requires c κs = search needs
@@ -53,7 +55,8 @@ returns-2 c =
     let stopped = stopped-answer sheet parameters small (count .0) (count .1)
     (plans .plan .ensures .1 .0) (plans .plan .ensures .1 .1 .0) (plans .plan .ensures .1 .1 .1 .0) (plans .plan .ensures .1 .1 .1 .1) (count .2)
     (start .args .budget) range (c .before .before .repeat-stages .ensures) in
-    promised sheet parameters small (start .args .budget) (c .figures-of .ensures) stopped
+    let p = promised sheet parameters small (start .args .budget) (c .figures-of .ensures) stopped in
+    (p .0, (p .1, answered-alike sheet parameters (start .args .budget) _ (p .0)))
 
 returns-3 : tie.Need-returns-3
 unfolding Answered
@@ -65,7 +68,8 @@ returns-3 c =
     let parameters = start .args .parameters in
     let range : BudgetInRange (start .args .budget) = record { positive = omega (arith, within .before .if1 .left); within = ltb-false _ _ (within .if2 .left) } in
     let down = planned-refused sheet parameters (plans .plan .result) (plans .plan .ensures .0) (c .before .planned2 .given .1) in
-    (sym (answer-refused sheet parameters (start .args .budget) _ _ range down), tt)
+    let answers = sym (answer-refused sheet parameters (start .args .budget) _ _ range down) in
+    (answers, (tt, answered-alike sheet parameters (start .args .budget) _ answers))
 
 pub cycles-spec : {M : Type 1} → statement M
 cycles-spec =

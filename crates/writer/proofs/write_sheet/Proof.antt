@@ -31,7 +31,7 @@ returns-2 c =
     let a = laid .before .before .before .before .args in
     let told = ap writeResult (c .enum-told .given .1) in
     let p = not-laid-out (a .records) (a .count) (a .buffer .now) (laid .before .before .if1 .left) (sym told ∙ laid .lay-out .ensures .0) in
-    (told ∙ p .0, (p .1 .0, λ n q. refused-is-not-ok (sym told ∙ q)))
+    (told ∙ p .0, (p .1 .0, (λ n q. refused-is-not-ok (sym told ∙ q), p .1 .1 .1)))
 
 returns-3 : tie.Need-returns-3
 returns-3 c =
