@@ -18,7 +18,7 @@ dot-zeros [] n = refl
 dot-zeros (x ∷ xs) zero = refl
 dot-zeros (x ∷ xs) (suc n) = ap₂ _+ℤ_ (*ℤ-zero x) (dot-zeros xs n)
 
-subtract-nil : (xs : List ℤ) → subtractLists xs [] ≡ xs
+pub subtract-nil : (xs : List ℤ) → subtractLists xs [] ≡ xs
 subtract-nil [] = refl
 subtract-nil (x ∷ xs) = refl
 

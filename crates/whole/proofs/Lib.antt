@@ -11,3 +11,5 @@ pub mod Newton
 pub mod Residue
 pub mod Word
 pub mod Examples
+pub mod Ranking
+pub mod RankingConstant

@@ -87,7 +87,7 @@ unfolding values
 values-append-one zero f = refl
 values-append-one (suc n) f = ap (λ (p : List ℤ). f zero ∷ p) (values-append-one n (λ k. f (suc k)))
 
-values-differences : (n : ℕ) (f : ℕ → ℤ) → differences (values (suc n) f) ≡ values n (difference f)
+pub values-differences : (n : ℕ) (f : ℕ → ℤ) → differences (values (suc n) f) ≡ values n (difference f)
 unfolding values differences
 values-differences zero f = refl
 values-differences (suc n) f = ap (λ (p : List ℤ). difference f zero ∷ p) (values-differences n (λ k. f (suc k)))

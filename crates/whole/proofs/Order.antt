@@ -155,7 +155,7 @@ smaller-right a b = by-test (leZ a b) refl
     by-test false e = AtMost-refl b
 
 -- negation turns the order
-leZ-neg : (a b : ℤ) → leZ (negℤ a) (negℤ b) ≡ leZ b a
+pub leZ-neg : (a b : ℤ) → leZ (negℤ a) (negℤ b) ≡ leZ b a
 leZ-neg (pos zero) (pos zero) = refl
 leZ-neg (pos zero) (pos (suc b)) = sym (leb·suc-zero b)
 leZ-neg (pos zero) (negsuc b) = leb·zero (suc b)

@@ -3,3 +3,4 @@ pub mod Sum
 pub mod Degree
 pub mod Newton
 pub mod Residue
+pub mod Ranking
