@@ -56,6 +56,17 @@ const KNOWN: [(&str, i16); 11] = [
     ("02000000000300000000000000000000ffff00000000000000010100010003", 0),
 ];
 
+/// i 0..99 over a choice of j 0..i over k 0..j, of j 0..i, and of straight work; the first arm as it is given.
+fn three_ways(first_arm: impl Fn(Vec<u8>) -> Vec<u8>, straight: u8) -> Vec<u8> {
+    let work = vec![1, 3, 0, 5, 0];
+    let outer = a_loop(form(0, [0; 3]), form(99, [0; 3]));
+    let growing = a_loop(form(0, [0; 3]), form(0, [1, 0, 0]));
+    let deepest = a_loop(form(0, [0; 3]), form(0, [0, 1, 0]));
+    let deep_arm = [growing.clone(), deepest, work.clone(), vec![3, 3]].concat();
+    let arm = [growing, work, vec![3]].concat();
+    [outer, vec![4], first_arm(deep_arm), vec![5], arm, vec![5, 1, straight, 0, straight, 0, 3, 3]].concat()
+}
+
 pub fn timed() -> Vec<Timed> {
     let work = vec![1, 3, 0, 5, 0];
     let triangle = [a_loop(form(0, [0; 3]), form(9, [0; 3])), a_loop(form(0, [0; 3]), form(-1, [1, 0, 0]))].concat();
@@ -82,7 +93,12 @@ pub fn timed() -> Vec<Timed> {
             few_trips: false,
             ..one("64 records, four deep, 2^44 trips", [slanted(2048), work.repeat(56), vec![3; 4]].concat())
         },
-        one("walked, 600,300 visits", [walked(300), walked(1000), inner, vec![3; 4]].concat()),
+        // two choices one in the other, so that no loop is ranked
+        one("walked, 600,300 visits", [walked(300), walked(1000), vec![4], inner, vec![3; 5]].concat()),
         one("choices that hold loops", [walked(100), arm, work, vec![3; 2]].concat()),
+        one("ranked nest, settled", three_ways(|arm| arm, 1)),
+        // a choice in an arm that holds a loop bars ranking; its one arm takes what it took
+        one("the same nest, walked", three_ways(|arm| [vec![4], arm, vec![3]].concat(), 1)),
+        one("ranked nest, not settled", three_ways(|arm| arm, 100)),
     ]
 }

@@ -43,15 +43,16 @@ enum {
     PUMDALIN_SHEET_LENGTH = 3456,    /* bytes that hold every sheet: 128 records of at most 27 */
     PUMDALIN_TEXT_LENGTH = 8209,     /* bytes that hold every text of pumdalin_text */
     /* bytes of stack that suffice for each call */
-    PUMDALIN_FIGURES_STACK = 10000,
-    PUMDALIN_TEXT_STACK = 20000,
+    PUMDALIN_FIGURES_STACK = 20000,
+    PUMDALIN_TEXT_STACK = 40000,
     PUMDALIN_WITH_SKIPS_STACK = 10000,
     PUMDALIN_WITHOUT_SKIPS_STACK = 10000
 };
 
 /* Stores least, most and visits, 8 bytes each, low byte first, in the first 24 bytes of the area; each is below 2^63. 9 comes
  * before every other refusal, 7 before 1 to 6, these before 8. It works through at most budget + 1 visits, each of which passes
- * at most 128 records. */
+ * at most 128 records. Visits are few where loops are closed, or ranked and settled by their first trips; all other loops take
+ * a visit for each of their trips. The figures do not depend on that. */
 uint32_t pumdalin_figures(const uint8_t *sheet, size_t sheet_length,
                           int16_t p1, int16_t p2, int16_t p3, int16_t p4,
                           uint32_t budget,
@@ -59,9 +60,10 @@ uint32_t pumdalin_figures(const uint8_t *sheet, size_t sheet_length,
 
 /* Stores what the program `bound` prints for this input: four parameters of 2 bytes each, a budget of 4 bytes, and the sheet,
  * low bytes first. The text goes into the buffer, its length, 8 bytes, low byte first, into the area. It has a line with the
- * figures, at most 81 bytes; then for each loop, of which there are at most 64, a line of at most 62 and, after that of a
- * walked loop, a line of at most 65 that says why it is walked. A refusal of the sheet is text too: the call itself refuses 9
- * for an area of under 8 bytes, and then 12 for a buffer that is shorter than the text. */
+ * figures, at most 81 bytes; then for each loop, of which there are at most 64, a line of at most 62 that says whether it is
+ * closed, ranked or walked and, after that of a ranked or walked loop, a line of at most 65 that says why it is not closed. A
+ * refusal of the sheet is text too: the call itself refuses 9 for an area of under 8 bytes, and then 12 for a buffer that is
+ * shorter than the text. */
 uint32_t pumdalin_text(const uint8_t *input, size_t input_length,
                        uint8_t *text, size_t text_length,
                        uint8_t *answer, size_t answer_length);

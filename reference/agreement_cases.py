@@ -24,6 +24,7 @@ from pumdalin.errors import ListingError
 from pumdalin.inputs import program_input
 from pumdalin.listing_reader import read_listing
 from pumdalin.records import LOOP, SKIP_LOOP
+from ranked import ranked_case
 from walked import BUDGET, walked_case
 
 # The program that runs the stored cases has so much room for an input; `bound` looks at less.
@@ -143,11 +144,11 @@ def with_one_byte_short(text: TextCall) -> list[TextCall]:
 
 
 def random_trials(seed: int) -> Iterator[Trial]:
-    """Trials without end: valid, damaged and hostile sheets of all sizes, walked ones and long ones."""
+    """Trials without end: valid, damaged and hostile sheets of all sizes, walked ones, long ones and ranked ones."""
     random = Random(seed)
     number = 0
     for size in cycle(SIZES.values()):
-        for case in [*cases(random, 1, size), walked_case(random), long_case(random)]:
+        for case in [*cases(random, 1, size), walked_case(random), long_case(random), ranked_case(random)]:
             for edge, result in with_edges(case):
                 number += 1
                 tells = f"seed {seed}, case {number}: a {case.kind} sheet"

@@ -17,6 +17,7 @@ NAME = {
     "refusal": "refused",
     "reports": "sheetReportsOf",
     "closed loop": "closedLoop",
+    "ranked loop": "rankedLoop",
     "walked loop": "walkedLoop",
     "holds loop": "holdsLoop",
     "too few trips": "tooFewTrips",
@@ -24,6 +25,8 @@ NAME = {
     "read reason": "readReason",
     "state after": "stateAfter",
     "state": "state",
+    "state keeping": "stateKeeping",
+    "kept arms": "keptArms",
     "bounds": "bounds",
     "loop frame": "loopFrame",
     "choice frame": "choiceFrame",
@@ -89,7 +92,7 @@ def answer_lines(specs: str, proofs: str, results: str) -> list[str]:
         specs + "Reader.{" + results + "}",
         specs + "Reason.{" + REASONS + "}",
         specs + "Answer.{figures, answer}",
-        proofs + "Vocabulary.{hex, zeroParameters, closedLoop, walkedLoop, sheetReportsOf}",
+        proofs + "Vocabulary.{hex, zeroParameters, closedLoop, rankedLoop, walkedLoop, sheetReportsOf}",
         proofs + "Computes.{computes}",
     ]
 
@@ -112,7 +115,7 @@ IMPORTS = {
         INTEGER, "use lib.ListN.{drop}",
         SPECS + "Record.{Loop, Record, workRecord, loopRecord, endRecord, choiceRecord, nextArmRecord}",
         SPECS + "Time.{bounds}",
-        SPECS + "Stage.{loopFrame, choiceFrame, state}",
+        SPECS + "Stage.{loopFrame, choiceFrame, keptArms, state, stateKeeping}",
         PROOFS + "Vocabulary.{zeroParameters, form, loopOf, skipLoopOf, stateAfter}",
         PROOFS + "Computes.{computes}",
     ],
@@ -229,7 +232,7 @@ def loop_report(report: ReckonedLoop) -> str:
     numbers = [str(report.offset), str(report.ceiling)]
     if report.reason is None:
         return term("closed loop", *numbers)
-    return term("walked loop", *numbers, inner(reason(report.reason)))
+    return term(f"{report.loop_class} loop", *numbers, inner(reason(report.reason)))
 
 
 def loop_reports(reports: list[ReckonedLoop]) -> str:

@@ -4,6 +4,7 @@ from typing import NamedTuple
 
 import stages
 import trips
+import visiting
 from nest import ReckonedLoop, accepted, loop_reports
 from pumdalin.answers import Answer, Figures, Refusal
 from pumdalin.inputs import HEADER_LENGTH, LARGEST_BUDGET, Parameters, from_input
@@ -27,7 +28,7 @@ def answer(sheet: bytes, parameters: Parameters, budget: int) -> Answer:
     if isinstance(records, Refusal):
         return records
     try:
-        visits = trips.visits(records, parameters, budget)
+        visits = visiting.visits(records, parameters, budget)
     except TooMany:
         return Refusal(8, 0)
     bounds = times(records, parameters)

@@ -1,13 +1,15 @@
 """Checks of one sheet against another way to reckon the same thing."""
 
+from contextlib import suppress
 from itertools import product
 from random import Random
 
 import stages
 import trips
+import visiting
 from calls import answer
 from nest import LoopFacts, Range, facts, index_range, loop_reports, value
-from pumdalin.answers import Figures, Refusal
+from pumdalin.answers import RANKED, WALKED, Figures, Refusal
 from pumdalin.inputs import Parameters
 from pumdalin.records import MOST_RECORDS, Choice, End, Form, Loop, Record, Work, encode_all, offsets
 from reasons import HoldsLoop, Reason, TooFewTrips, UnevenIn, read_reason
@@ -18,6 +20,8 @@ from trips import Bounds, TooMany
 # Every figure is below this; where every loop is closed, there are so many visits a loop at most.
 FIGURE_LIMIT = 2 ** 63
 VISITS_PER_LOOP = 24
+# Arms that take more trips are not gone over.
+TRIPS_OF_ARMS = 3000
 
 
 def check_round_trip(records: list[Record]) -> None:
@@ -41,7 +45,7 @@ def check_stages(records: list[Record], parameters: Parameters, limit: int) -> b
     nest = stages.nest_of(encode_all(records), parameters)
     assert not isinstance(nest, Refusal)
     try:
-        defined = trips.visits(records, parameters, limit)
+        defined = visiting.visits(records, parameters, limit)
     except TooMany:
         assert stages.run_stages(nest, limit).visits == limit + 1
         return False
@@ -60,6 +64,29 @@ def check_stages(records: list[Record], parameters: Parameters, limit: int) -> b
     except TooMany:
         return False
     return True
+
+
+def check_arms(nest: stages.Nest) -> None:
+    """The kept arms of each ranked loop at its first entry, by going over every trip."""
+    def go_down(body: Body, indexes: list[int]) -> None:
+        for node in loops_directly_in(body):
+            count = trips.trips_of(node.loop, indexes, nest.parameters)
+            for counter in range(visiting.first_trips(count, nest.known[node.position])):
+                inside = indexes + [trips.index_of(node.loop, counter, indexes, nest.parameters)]
+                if nest.known[node.position].ranked:
+                    kept = visiting.choices_at(node, counter, indexes, nest.parameters, nest.known)
+                    assert kept == arms_by_trips(node.body, inside, nest.parameters)
+                go_down(node.body, inside)
+
+    with suppress(TooMany):
+        go_down(tree(nest.records), [])
+
+
+def arms_by_trips(body: Body, indexes: list[int], parameters: Parameters) -> list[list[Bounds]]:
+    """Least and most of each arm of the choices directly in a body."""
+    choices = [node for node in body if isinstance(node, ChoiceNode)]
+    meter = trips.Meter(TRIPS_OF_ARMS)
+    return [[trips.body_time(arm, indexes, parameters, meter) for arm in choice.arms] for choice in choices]
 
 
 def check_visit_bound(records: list[Record], parameters: Parameters, visits: int) -> None:
@@ -153,11 +180,14 @@ def check_facts(records: list[Record], parameters: Parameters) -> None:
 
 
 def check_reasons(records: list[Record], parameters: Parameters, known: dict[int, LoopFacts]) -> None:
-    """A loop's reason is the first test that fails, and its line reads back to it."""
+    """A loop's reason is the first test that fails, and its line reads back to it; its class by all that fail."""
     open_records = open_before_each(records)
     for position, fact in known.items():
         failing = failing_tests(records, parameters, known, open_records, position)
         assert fact.reason == (failing[0] if failing else None)
+        around = dict(zip(offsets(records), open_records))
+        is_ranked = all(isinstance(bar, HoldsLoop) and around[bar.choice][-1] == position for bar in failing)
+        assert fact.loop_class == (RANKED if is_ranked else WALKED) if failing else fact.closed
         if fact.reason is not None:
             assert read_reason(fact.reason.line().encode()) == fact.reason
 

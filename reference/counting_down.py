@@ -67,7 +67,7 @@ SLANTED = [
             nest(span(0, 3), loop(form(i=1), form(), -1), loop(form(), form(j=1))), figures(20, 13), "ccc", 4, 4, 4),
     reading("a choice over a loop, i 9..0 by -1 { choice { j i-1..0 by -1 or work 4 } }", [
         span(9, 0, -1), Choice(), loop(form(-1, i=1), form(), -1), UNIT, END, NextArm(), Work(4, 4), END, END,
-    ], Figures(30, 55, 19), "wc", 10, 9),
+    ], Figures(30, 55, 19), "rc", 10, 9),
 ]
 
 # How far an index goes: from the lower form's largest value down to the upper form's smallest.

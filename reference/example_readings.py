@@ -2,6 +2,7 @@
 KnownAnswers.antt: what the library call returns."""
 
 import sys
+from typing import Callable
 
 import antt
 import readings
@@ -10,14 +11,16 @@ from antt import Equation, octets, term
 from calls import answer, reports
 from counting_down import TELLING_DOWN
 from known import MARKED
-from nest import counts_down
+from nest import counts_down, facts
 from pumdalin.answers import Answer, Figures, Refusal
 from pumdalin.inputs import Parameters, from_input
-from pumdalin.records import Loop
+from pumdalin.records import Loop, Record
+from ranked_sheets import RANKED_SHEETS
 from sheet import read
 
-# Of document 02's calls on loops that count down, those with more trips are stored cases only.
+# Of document 02's calls on loops that count down and on ranked loops, those with more trips are stored cases only.
 MOST_TRIPS_DOWN = 150
+MOST_TRIPS_RANKED = 300
 
 
 def answer_equations(
@@ -55,21 +58,34 @@ def equations_of(lines: list[readings.Reading]) -> list[Equation]:
 
 def down_equations() -> list[Equation]:
     """The sheets of loops that count down: those worked out by hand, and those of document 02's calls."""
-    requested = [line for line in requested_down() if feasible(line, MOST_TRIPS_DOWN)]
+    requested = [line for line in requested_on("C-17", has_loop_down) if feasible(line, MOST_TRIPS_DOWN)]
     return equations_of(TELLING_DOWN + requested)
 
 
-def requested_down() -> list[readings.Reading]:
-    """The inputs of `bound` with a loop that counts down, where C-17 asks for its text."""
+def ranked_equations() -> list[Equation]:
+    """The same of ranked loops."""
+    lines = RANKED_SHEETS + requested_on("C-18", has_ranked_loop)
+    return equations_of([line for line in lines if feasible(line, MOST_TRIPS_RANKED)])
+
+
+def has_loop_down(records: list[Record], values: Parameters) -> bool:
+    return any(isinstance(record, Loop) and counts_down(record) for record in records)
+
+
+def has_ranked_loop(records: list[Record], values: Parameters) -> bool:
+    return any(fact.ranked for fact in facts(records, values).values())
+
+
+def requested_on(request: str, has_such: Callable[[list[Record], Parameters], bool]) -> list[readings.Reading]:
+    """The inputs of `bound` with such a loop, where a request asks for its text."""
     found: list[readings.Reading] = []
     for printed in readings.parse_requests():
         sheet, parameters, budget = from_input(printed.data)
         records = read(sheet)
-        if printed.request != "C-17" or isinstance(records, Refusal):
+        if printed.request != request or isinstance(records, Refusal) or not has_such(records, parameters):
             continue
-        if any(isinstance(record, Loop) and counts_down(record) for record in records):
-            result = answer(sheet, parameters, budget)
-            found.append(readings.Reading(parameters, budget, sheet, result, "", [], printed.tells))
+        result = answer(sheet, parameters, budget)
+        found.append(readings.Reading(parameters, budget, sheet, result, "", [], printed.tells))
     return found
 
 
@@ -84,6 +100,7 @@ def readings_file(path: str, trip_limit: int, group: int) -> str:
     comments += [f"Left out, over {trip_limit} trips: {tells}" for tells in skipped]
     theorems = antt.grouped("readings", equations_of(kept), group)
     theorems += antt.grouped("counting-down", down_equations(), group)
+    theorems += antt.grouped("ranked", ranked_equations(), group)
     return antt.file_text("Readings.antt", comments, theorems)
 
 

@@ -9,7 +9,7 @@ from antt import Equation, inner, listed, term
 from known import END, UNIT, ZERO, form, loop, span
 from pumdalin.inputs import Parameters
 from pumdalin.records import Choice, Loop, NextArm, Record, Work, encode_all
-from stages import ChoiceFrame, Frame, LoopFrame, Nest, State
+from stages import NO_ARMS, ChoiceFrame, Frame, KeptArms, LoopFrame, Nest, State
 from trips import Bounds
 
 # Whether loops get names of their own, which keeps the text short.
@@ -27,7 +27,7 @@ EXAMPLES = [
     Example("closed: i 0 to 9, j 0 to i - 1", known.TRIANGLE),
     Example("walked: i 0 to 9, j 0 to i by 2", known.UNEVEN),
     Example("closed, three deep", known.THREE_DEEP),
-    Example("walked: a loop in an arm", known.LOOP_IN_ARM),
+    Example("ranked, not settled: a loop in an arm", known.LOOP_IN_ARM),
     Example("no trip", known.NO_TRIP),
     Example("walked with start and step, the inner loop empty in later trips", [
         span(1, 3, start=7, step=2), Work(1, 3),
@@ -42,7 +42,7 @@ EXAMPLES = [
         Work(1, 1), Choice(), span(0, 4, step=1), Work(2, 3), END, NextArm(),
         span(0, 2, start=9), Work(1, 7), END, Work(5, 5), END, Work(2, 8),
     ]),
-    Example("a closed nest in a walked loop", [
+    Example("a closed nest in a ranked loop", [
         span(0, 2, start=3, step=1), Choice(),
         loop(form(0), form(3, i=1), start=1, step=2), loop(form(0), form(j=1), step=1),
         Work(1, 2), END, END, NextArm(), Work(6, 60), END, END,
@@ -84,6 +84,22 @@ EXAMPLES = [
     Example("walked, both directions: i 0 to 2, j i down to 0 by 2", [
         span(0, 2), loop(form(i=1), form(), -2, start=1, step=3), Work(1, 2), END, END,
     ]),
+    Example("ranked, settled: two choices, a work between them, a loop in each", [
+        span(0, 4, start=3, step=1), Choice(), Work(1, 2), loop(form(0), form(i=1), start=1), Work(2, 3), END, NextArm(),
+        Work(1, 1), END, Work(0, 4), Choice(), loop(form(0), form(-1, i=1), step=2), UNIT, END, NextArm(), END, END,
+    ]),
+    Example("ranked, settled, height 2: three arms, a choice without loops in one", [
+        span(0, 5), Choice(), loop(form(0), form(i=1), step=1), loop(form(0), form(j=1)), Work(1, 2), END, END, NextArm(),
+        Choice(), Work(1, 1), NextArm(), Work(0, 2), END, NextArm(), loop(form(0), form(i=1)), UNIT, END, END, END,
+    ]),
+    Example("ranked, entered anew in a walked loop: settled at i = 1, not settled at i = 2 and 3", [
+        span(1, 3, step=1), span(0, 3, start=2), Choice(), loop(form(0), form(j=1)), UNIT, END, NextArm(),
+        loop(form(1), form(i=1)), UNIT, END, END, END, END,
+    ]),
+    Example("ranked, fewer trips than height + 1, in an arm of the sheet", [
+        Choice(), span(0, 1), Choice(), loop(form(0), form(i=1)), loop(form(0), form(j=1)), UNIT, END, END, NextArm(),
+        Work(2, 2), END, END, NextArm(), Work(3, 3), END,
+    ]),
     Example("parameters, a negative factor, strides", [
         loop(form(p=(1,)), form(p=(1, 0, 2)), stride=3), Work(1, 2),
         loop(form(1, i=-1), form(20, i=-1, p=(0, -1)), stride=2, start=2), Work(5, 6), END, END,
@@ -97,6 +113,15 @@ def bounds(value: Bounds) -> str:
 
 def optional_bounds(value: Optional[Bounds]) -> str:
     return term("none") if value is None else term("some", inner(bounds(value)))
+
+
+def all_bounds(values: tuple[Bounds, ...]) -> str:
+    return inner(listed([bounds(value) for value in values]))
+
+
+def kept_arms(arms: KeptArms) -> str:
+    visited = inner(listed([all_bounds(trip) for trip in arms.visited]))
+    return term("kept arms", visited, all_bounds(arms.opened))
 
 
 class Writer:
@@ -138,14 +163,16 @@ class Writer:
             self.loop_name(frame.position),
             self.remaining(frame.position + 1),
             str(frame.counter),
-            inner(listed([bounds(trip) for trip in frame.visited])),
+            all_bounds(frame.visited),
             inner(bounds(frame.enclosing)),
         )
 
     def state(self, state: State) -> str:
         frames = inner(listed([self.frame(frame) for frame in state.frames]))
-        return term("state", self.remaining(state.position), inner(bounds(state.current)),
-                    frames, str(state.visits))
+        parts = [self.remaining(state.position), inner(bounds(state.current)), frames, str(state.visits)]
+        if state.arms == NO_ARMS:
+            return term("state", *parts)
+        return term("state keeping", inner(kept_arms(state.arms)), *parts)
 
     def equations(self) -> list[Equation]:
         """From 0 to visits + 2 stages: the last one finds the sheet's end again."""

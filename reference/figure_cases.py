@@ -16,12 +16,14 @@ from kept import kept_cases
 from pumdalin.answers import Answer, Figures
 from pumdalin.inputs import encode_parameters
 from pumdalin.records import two_bytes_each
+from ranked import ranked_case
 from stored import main
 
 SEED = 2051
 # of each size, three sheets each: valid, damaged, hostile
 RANDOM_CASES = {"small": 400, "middle": 210, "large": 40}
 RANDOM_LONG_SHEETS = 50
+RANDOM_RANKED_SHEETS = 150
 FIGURES = 4
 
 
@@ -59,6 +61,7 @@ def all_cases() -> bytes:
     for name, size in SIZES.items():
         given += cases(random, RANDOM_CASES[name], size)
     given += [long_case(random) for _ in range(RANDOM_LONG_SHEETS)]
+    given += [ranked_case(random) for _ in range(RANDOM_RANKED_SHEETS)]
     return b"".join(figure_case(*answered) for case in given for answered in with_edges(case))
 
 

@@ -13,6 +13,7 @@ from typing import NamedTuple, Optional
 from calls import answer, reports
 from directions import turned_at_times
 from hostile import hostile_sheet
+from nest import ways_of
 from pumdalin.answers import Figures
 from pumdalin.inputs import Parameters
 from pumdalin.records import (
@@ -222,7 +223,7 @@ def line(case: Case) -> str:
     if not isinstance(result, Figures):
         return f"{given} => refused {numbers}   # {case.kind}"
     found = reports(case.sheet, case.parameters)
-    ways = "".join("c" if report.closed else "w" for report in found) or "-"
+    ways = ways_of(found) or "-"
     ceilings = ",".join(str(report.ceiling) for report in found) or "-"
     return f"{given} => ok {numbers} {ways} {ceilings}   # {case.kind}"
 

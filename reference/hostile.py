@@ -50,8 +50,31 @@ def menu(opened: list[str], room: int) -> list[str]:
     return kinds
 
 
+def hostile_arm(random: Random) -> list[Record]:
+    """Up to three loops inside one another of up to 2,048 trips, all costs at their edges."""
+    depth = random.randint(0, MOST_LOOPS_DEEP - 1)
+    loops: list[Record] = []
+    for _ in range(depth):
+        upper = random.choice([Form(2047), Form(0, (1, 0, 0)), Form(2047, (-1, 0, 0)), Form(-1, (1, 0, 0))])
+        start, step = [random.choice([0, COST_LIMIT]) for _ in range(2)]
+        loops.append(Loop(start, step, 1, Form(0), upper, random.choice([None, start])))
+    works = [Work(random.choice([0, COST_LIMIT]), COST_LIMIT)] * random.choice([0, 1, 20])
+    return [*loops, *works, *[End()] * depth]
+
+
+def hostile_choice(random: Random) -> bytes:
+    """A loop of 2,048 trips or fewer over a choice of such arms."""
+    last = random.choice([0, 3, 7, 2047, 2047])
+    records: list[Record] = [Loop(COST_LIMIT, COST_LIMIT, 1, Form(0), Form(last)), Choice(), *hostile_arm(random)]
+    for _ in range(random.choice([0, 1, 1, 2, 3])):
+        records += [NextArm(), *hostile_arm(random)]
+    return b"".join(encode(record) for record in [*records, End(), End()])
+
+
 def hostile_sheet(random: Random) -> bytes:
-    """Two of three are well-formed; the others take any record anywhere."""
+    """Every tenth a choice of large arms; of the others two of three are well-formed, the rest take any record anywhere."""
+    if random.random() < 0.1:
+        return hostile_choice(random)
     careful = random.random() < 0.67
     sheet = b""
     opened: list[str] = []

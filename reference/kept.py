@@ -5,12 +5,13 @@ import readings
 from counting_down import COUNTING_DOWN
 from generate import Case
 from long_sheets import LONG_SHEETS
+from ranked_sheets import RANKED_SHEETS
 
 
 def kept_readings() -> list[readings.Reading]:
-    """The readings file, the telling sheets, those of loops that count down, and long ones."""
+    """The readings file, the telling sheets, those of loops that count down, long ones, and those of ranked loops."""
     files = readings.parse_file(readings.READINGS) + readings.parse_file(readings.TELLING)
-    return files + COUNTING_DOWN + LONG_SHEETS
+    return files + COUNTING_DOWN + LONG_SHEETS + RANKED_SHEETS
 
 
 def kept_cases() -> list[Case]:

@@ -31,7 +31,7 @@ ZERO: Parameters = (0, 0, 0, 0)
 
 
 class Known(NamedTuple):
-    """A sheet, its answer, and c or w for each loop in sheet order."""
+    """A sheet, its answer, and c, r or w for each loop in sheet order."""
 
     tells: str
     records: list[Record]
@@ -80,7 +80,7 @@ MARKED = [
           Figures(5050, 5050, 4), "cc"),
     Known("i 1 to N, j i to N, N 0", PARAMETER, ZERO, 100, Figures(0, 0, 0), "cc"),
     Known("i 0 to 9 over a choice of (j 0 to i - 1) and work 4 to 4", LOOP_IN_ARM, ZERO, 100,
-          Figures(30, 55, 19), "wc"),
+          Figures(30, 55, 19), "rc"),
     Known("i 0 to -1 by 3", NO_TRIP, ZERO, 100, Figures(0, 0, 0), "c"),
 ]
 

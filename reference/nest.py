@@ -1,13 +1,13 @@
-"""The loops of a sheet at given parameter values: ranges, ceilings, closed or walked."""
+"""The loops of a sheet at given parameter values: ranges, ceilings, closed, ranked or walked."""
 
 from typing import NamedTuple, Optional, Union
 
-from pumdalin.answers import LoopReport, Refusal
+from pumdalin.answers import CLOSED, RANKED, WALKED, LoopReport, Refusal
 from pumdalin.inputs import Parameters
 from pumdalin.records import CEILING_LIMIT, Form, Loop, Record, offsets
 from reasons import HoldsLoop, Reason, TooFewTrips, UnevenIn
 from sheet import read, skip_of
-from tree import Body, LoopNode, choices_in, height, loops_directly_in, tree
+from tree import Body, LoopNode, choices_directly_in, choices_in, height, loops_directly_in, tree
 
 
 class Range(NamedTuple):
@@ -84,19 +84,20 @@ def pushed(form: Form, pushes: list[int]) -> int:
 
 
 class ReckonedLoop(NamedTuple):
-    """What is printed of a loop: its own line, and where it is walked the reason's."""
+    """What is printed of a loop: its own line, and where it is not closed the reason's."""
 
     offset: int
+    loop_class: str
     ceiling: int
     reason: Optional[Reason]
 
     @property
     def closed(self) -> bool:
-        return self.reason is None
+        return self.loop_class == CLOSED
 
     def report(self) -> LoopReport:
         """What its own line says."""
-        return LoopReport(self.offset, self.closed, self.ceiling)
+        return LoopReport(self.offset, self.loop_class, self.ceiling)
 
     def text(self) -> str:
         return f"loop {self.report().text()}\n" + (self.reason.line() if self.reason else "")
@@ -107,13 +108,20 @@ class LoopFacts(NamedTuple):
 
     difference: Range
     ceiling: int
-    # why it is walked
+    loop_class: str
+    # why it is not closed
     reason: Optional[Reason]
     height: int
+    # how many arms each choice has that stands directly in the body
+    arms: tuple[int, ...]
 
     @property
     def closed(self) -> bool:
-        return self.reason is None
+        return self.loop_class == CLOSED
+
+    @property
+    def ranked(self) -> bool:
+        return self.loop_class == RANKED
 
 
 def facts(records: list[Record], parameters: Parameters) -> dict[int, LoopFacts]:
@@ -128,8 +136,10 @@ def facts(records: list[Record], parameters: Parameters) -> dict[int, LoopFacts]
         found[node.position] = LoopFacts(
             difference,
             trips_for(difference.largest, node.loop),
+            class_of(path, differences, places),
             reason_of(path, differences, places),
             height(node),
+            tuple(len(choice.arms) for choice in choices_directly_in(node.body)),
         )
     return found
 
@@ -159,16 +169,37 @@ def difference_ranges(
 def reason_of(
     path: list[LoopNode], differences: dict[int, Range], places: list[int]
 ) -> Optional[Reason]:
-    """Why the last loop of a path is walked; None if it is closed.
-
-    Choices first, by offset; then the loops K inside in sheet order, for each K too few trips
-    before uneven, and M from the walked loop inward to the one directly around K.
-    """
-    walked = path[-1]
-    for choice in choices_in(walked.body):
+    """Why the last loop of a path is not closed; None if it is. Choices come first, by offset."""
+    for choice in choices_in(path[-1].body):
         if choice.holds_loop():
             return HoldsLoop(places[choice.position])
-    for *around, inner in paths_in(walked.body, path):
+    return failing_loop(path, differences, places)
+
+
+def class_of(path: list[LoopNode], differences: dict[int, Range], places: list[int]) -> str:
+    """Ranked where the only bar to closing is choices that stand directly in its body (document 02, C-18).
+
+    Each arm passes the tests itself where no choice inside it holds a loop and all its loops pass theirs.
+    """
+    node = path[-1]
+    if reason_of(path, differences, places) is None:
+        return CLOSED
+    direct = [choice.position for choice in choices_directly_in(node.body)]
+    deeper = [choice for choice in choices_in(node.body) if choice.position not in direct]
+    if any(choice.holds_loop() for choice in deeper) or failing_loop(path, differences, places):
+        return WALKED
+    return RANKED
+
+
+def failing_loop(
+    path: list[LoopNode], differences: dict[int, Range], places: list[int]
+) -> Optional[Reason]:
+    """Which loop inside the last one of a path fails a test for closing it, in arms or not.
+
+    The loops K inside in sheet order, for each K too few trips before uneven, and M from the
+    loop itself inward to the one directly around K.
+    """
+    for *around, inner in paths_in(path[-1].body, path):
         if differences[inner.position].smallest < asked_difference(inner.loop):
             return TooFewTrips(places[inner.position])
         for mover in range(len(path) - 1, len(around)):
@@ -213,10 +244,15 @@ def accepted(sheet: bytes, parameters: Parameters) -> Union[list[Record], Refusa
     return ceiling_refusal(records, parameters) or records
 
 
+def ways_of(loops: list[ReckonedLoop]) -> str:
+    """c, r or w for each loop: closed, ranked, walked."""
+    return "".join(loop.loop_class[0] for loop in loops)
+
+
 def loop_reports(records: list[Record], parameters: Parameters) -> list[ReckonedLoop]:
     """What is printed of every loop, in sheet order."""
     places = offsets(records)
     return [
-        ReckonedLoop(places[position], fact.ceiling, fact.reason)
+        ReckonedLoop(places[position], fact.loop_class, fact.ceiling, fact.reason)
         for position, fact in facts(records, parameters).items()
     ]

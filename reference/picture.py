@@ -9,6 +9,7 @@ come from going over every trip, visits from their definition.
 from typing import NamedTuple
 
 import trips
+import visiting
 from chart import Axis, Band, Chart, Entry, Frame, Line, Point, Style, draw, picture
 from known import END, UNIT, form, loop
 from pumdalin.inputs import Parameters
@@ -46,7 +47,7 @@ UNEVEN = Sheet(
     [loop(form(1), N), loop(form(1), I, stride=2), Work(3, 4), END, END],
 )
 CHOICE = Sheet(
-    "i walked: i 1 to N, a choice of j 1 to i and work 4", GREEN, "triangle",
+    "i ranked: i 1 to N, a choice of j 1 to i and work 4", GREEN, "triangle",
     [loop(form(1), N), Choice(), loop(form(1), I), UNIT, END, NextArm(), Work(4, 4), END, END],
 )
 THREE_DEEP = Sheet(
@@ -54,7 +55,7 @@ THREE_DEEP = Sheet(
     [loop(form(1), N), loop(I, N), loop(form(j=1), N), UNIT, END, END, END],
 )
 CHOICE_IN_TWO = Sheet(
-    "i, j walked: i, j 1 to N, a choice of k 1 to i and work 1", GREEN, "triangle",
+    "i walked, j ranked: i, j 1 to N, a choice of k 1 to i and work 1", GREEN, "triangle",
     [loop(form(1), N), loop(form(1), N), Choice(), loop(form(1), I), UNIT, END, NextArm(), UNIT,
      END, END, END],
 )
@@ -83,7 +84,7 @@ def visits_against_trips(sheet: Sheet) -> list[Point]:
             made = trips.trips(sheet.records, at(value), TRIP_LIMIT)
         except trips.TooMany:
             break
-        points.append((made, trips.visits(sheet.records, at(value), TRIP_LIMIT)))
+        points.append((made, visiting.visits(sheet.records, at(value), TRIP_LIMIT)))
     return points
 
 

@@ -3,7 +3,7 @@ papers apart, telling.txt those that tell a definition from one that is wrong in
 requests.txt has calls that tell readings of document 02 apart.
 
 A line of the first two: four parameters, budget, sheet in hex (- if empty), `=>`, then
-`ok LEAST MOST VISITS WAYS CEILINGS` (c or w by loop; - if there is none) or
+`ok LEAST MOST VISITS WAYS CEILINGS` (c, r or w by loop; - if there is none) or
 `refused NUMBER PLACE`; last `#` and what it tells. A line of the third: the request, the
 input of `bound` in hex, `=>`, then the printed text with | for each line feed; last the same.
 Or the request, `to6` or `to2`, the length of the buffer, the sheet, `=>`, then `ok`, the new

@@ -4,16 +4,19 @@
 
 writes FILE, or with --check compares it with what stands there. A case has the
 header of sheet_cases.py with 5 as its first byte, the number of stages in place
-of the number of records, and 0 for what it has not. After the sheet follow the
-four parameters, 2 bytes each, and for each stage 22 bytes of the state that it
-returns: the records passed, 2 bytes, the visits, 4 bytes, and the least and the
-most of the innermost open trip or arm, or else of the sheet, 8 bytes each. The
-last stage but one reaches the sheet's end; the last one stays there. A refused
-or empty sheet has one stage, which changes nothing.
+of the number of records, the length of what follows the sheet in place of the
+expected length, and 0 for what it has not. After the sheet follow the four
+parameters, 2 bytes each, and for each stage the state that it returns: the
+records passed, 2 bytes, the visits, 4 bytes, the least and the most of the
+innermost open trip or arm, or else of the sheet, 8 bytes each, how many arms are
+kept, 2 bytes, and the least and the most of each, 8 bytes each: those of the
+visited trips in order, then those of the open trip, in each as they were passed.
+The last stage but one reaches the sheet's end; the last one stays there. A
+refused or empty sheet has one stage, which changes nothing.
 """
 
 from random import Random
-from typing import Iterator
+from typing import Callable, Iterator
 
 from generate import SIZES, Case, parameters, valid_records
 from kept import kept_cases
@@ -21,11 +24,14 @@ from nest import counts_down
 from pumdalin.answers import Refusal
 from pumdalin.inputs import encode_parameters
 from pumdalin.records import encode_all, two_bytes_each
+from ranked import ranked_case
+from ranked_sorts import RANKED_SORTS, ranked_sorts
 from sheet import skip_of
 from stages import Nest, State, at_end, first_state, nest_of, next_state
 from stored import main
+from text_limits import TEXT_LENGTH
 from tree import LoopNode, choices_in, height, loops_directly_in, loops_in, tree
-from trips import trips_of
+from trips import Bounds, trips_of
 
 SEED = 2052
 STAGES = 5
@@ -33,8 +39,10 @@ STAGES = 5
 BUDGET = 1_000_000
 # a case's states have to fit in the program's space, which is that of the longest text
 MOST_STAGES = 150
+MOST_BYTES = TEXT_LENGTH
 # at least so many random sheets of each sort
 EACH_SORT = 130
+EACH_RANKED_SORT = 12
 SORTS = (
     "walked", "closed", "choice with a loop", "four deep", "no trip", "skip inside",
     "walked, counts down", "closed, counts down", "both directions",
@@ -54,19 +62,30 @@ def states_of(nest: Nest) -> list[State]:
     return []
 
 
+def sums(bounds: Bounds) -> bytes:
+    return bounds.least.to_bytes(8, "little") + bounds.most.to_bytes(8, "little")
+
+
+def kept_arms(state: State) -> list[Bounds]:
+    """Those of the visited trips in order, then those of the open one."""
+    return [arm for trip in state.arms.trips() for arm in trip]
+
+
 def line(state: State) -> bytes:
-    sums = state.current.least.to_bytes(8, "little") + state.current.most.to_bytes(8, "little")
-    return two_bytes_each(state.position) + state.visits.to_bytes(4, "little") + sums
+    arms = kept_arms(state)
+    own = two_bytes_each(state.position) + state.visits.to_bytes(4, "little") + sums(state.current)
+    return own + two_bytes_each(len(arms)) + b"".join(map(sums, arms))
 
 
 def stored(case: Case) -> bytes:
     """The case with its states; nothing where these are too many. A refused sheet leaves the first state as it is."""
     nest = nest_of(case.sheet, case.parameters)
     states = [first_state()] if isinstance(nest, Refusal) else states_of(nest)
-    if not states:
+    given = encode_parameters(case.parameters) + b"".join(map(line, states))
+    if not states or len(given) > MOST_BYTES:
         return b""
-    head = bytes([STAGES, 0]) + two_bytes_each(len(case.sheet), len(states), 0, 0, 0)
-    return head + case.sheet + encode_parameters(case.parameters) + b"".join(map(line, states))
+    head = bytes([STAGES, 0]) + two_bytes_each(len(case.sheet), len(states), len(given), 0, 0)
+    return head + case.sheet + given
 
 
 def sorts_of(nest: Nest) -> set[str]:
@@ -106,24 +125,33 @@ def random_cases(random: Random) -> Iterator[Case]:
             yield Case("valid", encode_all(valid_records(random, size)), parameters(random), BUDGET)
 
 
-def wanted_cases(random: Random) -> list[Case]:
+def ranked_cases(random: Random) -> Iterator[Case]:
+    while True:
+        yield ranked_case(random)
+
+
+def wanted_cases(cases: Iterator[Case], sorts: dict[str, int], found_sorts: Callable[[Nest], set[str]]) -> list[Case]:
     """Sheets of which each is of a sort that there are not yet enough of."""
-    left = dict.fromkeys(SORTS, EACH_SORT)
+    left = dict(sorts)
     chosen: list[Case] = []
-    for case in random_cases(random):
+    for case in cases:
         nest = nest_of(case.sheet, case.parameters)
-        if isinstance(nest, Refusal) or not states_of(nest):
+        if isinstance(nest, Refusal) or not stored(case):
             continue
-        wanted = {sort for sort in sorts_of(nest) if left[sort] > 0}
+        wanted = {sort for sort in found_sorts(nest) if left[sort] > 0}
         if wanted:
             chosen.append(case)
             left.update({sort: left[sort] - 1 for sort in wanted})
         if not any(left.values()):
-            return chosen
+            break
+    return chosen
 
 
 def all_cases() -> bytes:
-    return b"".join(map(stored, kept_cases() + wanted_cases(Random(SEED))))
+    random = Random(SEED)
+    wanted = wanted_cases(random_cases(random), dict.fromkeys(SORTS, EACH_SORT), sorts_of)
+    ranked = wanted_cases(ranked_cases(random), dict.fromkeys(RANKED_SORTS, EACH_RANKED_SORT), ranked_sorts)
+    return b"".join(map(stored, kept_cases() + wanted + ranked))
 
 
 if __name__ == "__main__":

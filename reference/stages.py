@@ -13,7 +13,9 @@ from newton import newton_sum
 from pumdalin.answers import Refusal
 from pumdalin.inputs import Parameters
 from pumdalin.records import Choice, End, Loop, NextArm, Record, Work
-from trips import NOTHING, Bounds, both, entry_cost, index_of, to_visit, trips_of
+from ranking import Choices, settled
+from trips import NOTHING, Bounds, both, entry_cost, index_of, trips_of
+from visiting import first_trips
 
 
 @dataclass(frozen=True)
@@ -22,8 +24,9 @@ class LoopFrame:
 
     `visited` holds the sums of the visited trips before the open one: of a
     closed loop one each, oldest first; of a walked loop a single sum of them,
-    and nothing before the second trip. `enclosing` is the sum of what was
-    passed just around the loop, the loop's start included.
+    and nothing before the second trip; of a ranked loop as of a closed one in
+    the first trips, and as of a walked one after them. `enclosing` is the sum
+    of what was passed just around the loop, the loop's start included.
     """
 
     position: int
@@ -44,6 +47,29 @@ Frame = Union[LoopFrame, ChoiceFrame]
 
 
 @dataclass(frozen=True)
+class KeptArms:
+    """Of the open ranked loop, in its first trips, the arms of the choices directly in its body.
+
+    One tuple for each visited trip, and those of the open trip that are passed;
+    in each the arms in the order in which they are passed. All loops around a
+    ranked loop are walked and all in it closed, so no two are open together.
+    """
+
+    visited: tuple[tuple[Bounds, ...], ...] = ()
+    opened: tuple[Bounds, ...] = ()
+
+    def with_arm(self, arm: Bounds) -> "KeptArms":
+        return replace(self, opened=self.opened + (arm,))
+
+    def trips(self) -> tuple[tuple[Bounds, ...], ...]:
+        """Those of every trip, where the open one is at its end."""
+        return self.visited + (self.opened,)
+
+
+NO_ARMS = KeptArms()
+
+
+@dataclass(frozen=True)
 class State:
     """`current` is the sum of the innermost open trip or arm, or else of the sheet.
 
@@ -55,6 +81,7 @@ class State:
     current: Bounds
     frames: tuple[Frame, ...]
     visits: int
+    arms: KeptArms = NO_ARMS
 
 
 @dataclass(frozen=True)
@@ -127,13 +154,23 @@ def pass_record(nest: Nest, state: State) -> State:
         opened = ChoiceFrame(None, state.current)
         return onward(replace(state, frames=(opened,) + state.frames), NOTHING)
     innermost, outer = state.frames[0], state.frames[1:]
+    if isinstance(innermost, LoopFrame):
+        return pass_loop_end(nest, innermost, state)
+    passed = with_arm(innermost.passed, state.current)
+    if keeps_arms(nest, outer):
+        state = replace(state, arms=state.arms.with_arm(state.current))
     if isinstance(record, NextArm):
-        left = ChoiceFrame(with_arm(innermost.passed, state.current), innermost.enclosing)
+        left = ChoiceFrame(passed, innermost.enclosing)
         return onward(replace(state, frames=(left,) + outer), NOTHING)
-    if isinstance(innermost, ChoiceFrame):
-        arms = with_arm(innermost.passed, state.current)
-        return onward(replace(state, frames=outer), innermost.enclosing.plus(arms))
-    return pass_loop_end(nest, innermost, state)
+    return onward(replace(state, frames=outer), innermost.enclosing.plus(passed))
+
+
+def keeps_arms(nest: Nest, around: tuple[Frame, ...]) -> bool:
+    """Whether a choice with this around it stands directly in one of a ranked loop's first trips."""
+    if not around or isinstance(around[0], ChoiceFrame):
+        return False
+    fact = nest.known[around[0].position]
+    return fact.ranked and around[0].counter <= fact.height
 
 
 def onward(state: State, current: Bounds) -> State:
@@ -162,12 +199,12 @@ def pass_loop(nest: Nest, loop: Loop, state: State) -> State:
     if trips == 0:
         return replace(state, position=nest.ends[state.position] + 1, current=around)
     frame = LoopFrame(state.position, 0, (), around)
-    return open_trip(frame, state.frames, state.visits)
+    return open_trip(frame, state.frames, state.visits, state.arms)
 
 
-def open_trip(frame: LoopFrame, outer: tuple[Frame, ...], visits: int) -> State:
+def open_trip(frame: LoopFrame, outer: tuple[Frame, ...], visits: int, arms: KeptArms) -> State:
     """A trip opens with sums 0: this begins a visit."""
-    return State(frame.position + 1, NOTHING, (frame,) + outer, visits + 1)
+    return State(frame.position + 1, NOTHING, (frame,) + outer, visits + 1, arms)
 
 
 def pass_loop_end(nest: Nest, frame: LoopFrame, state: State) -> State:
@@ -175,15 +212,68 @@ def pass_loop_end(nest: Nest, frame: LoopFrame, state: State) -> State:
     loop = nest.records[frame.position]
     fact = nest.known[frame.position]
     outer = state.frames[1:]
-    visited = frame.visited + (state.current.plus(both(loop.step)),)
-    if not fact.closed:
-        visited = (add_up(visited),)
     trips = trips_of(loop, open_indexes(nest, outer), nest.parameters)
-    if frame.counter + 1 < to_visit(trips, fact):
-        further = replace(frame, counter=frame.counter + 1, visited=visited)
-        return open_trip(further, outer, state.visits)
-    total = newton_sum(visited, trips) if fact.closed else visited[0]
-    return onward(replace(state, frames=outer), frame.enclosing.plus(total))
+    ended = TripEnd(fact, frame, trips, frame.visited + (state.current.plus(both(loop.step)),), state.arms)
+    if frame.counter + 1 < ended.to_visit():
+        further = replace(frame, counter=frame.counter + 1, visited=ended.kept_sums())
+        return open_trip(further, outer, state.visits, ended.arms_after())
+    left = replace(state, frames=outer, arms=ended.arms_left())
+    return onward(left, frame.enclosing.plus(ended.total()))
+
+
+@dataclass(frozen=True)
+class TripEnd:
+    """The end of a visited trip of a loop that makes so many; `sums` has the trip's own as its last."""
+
+    fact: LoopFacts
+    frame: LoopFrame
+    trips: int
+    sums: tuple[Bounds, ...]
+    arms: KeptArms
+
+    def more_first_trips(self) -> bool:
+        """Whether a ranked loop has not come to its decision yet."""
+        return self.frame.counter + 1 < first_trips(self.trips, self.fact)
+
+    def is_decision(self) -> bool:
+        """Whether a ranked loop decides here, at the last of its first trips."""
+        return self.fact.ranked and self.frame.counter + 1 == first_trips(self.trips, self.fact)
+
+    def is_summed(self) -> bool:
+        """Whether the trips that are not visited follow from the differences."""
+        return self.fact.closed or self.is_decision() and settled(self.kept_choices())
+
+    def kept_choices(self) -> list[Choices]:
+        """The kept arms of each trip, choice by choice."""
+        return [split(arms, self.fact.arms) for arms in self.arms.trips()]
+
+    def to_visit(self) -> int:
+        return first_trips(self.trips, self.fact) if self.is_summed() else self.trips
+
+    def kept_sums(self) -> tuple[Bounds, ...]:
+        """One for each trip, or where no differences will be taken a single one."""
+        if self.fact.closed or self.fact.ranked and self.more_first_trips():
+            return self.sums
+        return (add_up(self.sums),)
+
+    def arms_after(self) -> KeptArms:
+        """What is kept for the next trip."""
+        if not self.fact.ranked:
+            return self.arms
+        return KeptArms(self.arms.trips()) if self.more_first_trips() else NO_ARMS
+
+    def arms_left(self) -> KeptArms:
+        """What is kept where the loop is left."""
+        return NO_ARMS if self.fact.ranked else self.arms
+
+    def total(self) -> Bounds:
+        return newton_sum(self.sums, self.trips) if self.is_summed() else add_up(self.sums)
+
+
+def split(arms: tuple[Bounds, ...], counts: tuple[int, ...]) -> Choices:
+    """The arms that follow one another, in parts of so many each."""
+    starts = [sum(counts[:number]) for number in range(len(counts))]
+    return [arms[start:start + count] for start, count in zip(starts, counts)]
 
 
 def add_up(sums: tuple[Bounds, ...]) -> Bounds:

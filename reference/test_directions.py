@@ -8,6 +8,7 @@ from typing import Callable, Iterator, NamedTuple, Optional
 
 import stages
 import trips
+import visiting
 from consistency import check_facts, check_stages, trip_indexes
 from converters import from_skips, to_skips
 from counting_down import COUNTING_DOWN
@@ -137,7 +138,7 @@ def told(records: list[Record], values: Parameters) -> Told:
     loops = loop_reports(records, values)
     if ceiling_refusal(records, values):
         return Told(loops, None, None, [])
-    return Told(loops, within(trips.visits, records, values), within(trips.time, records, values),
+    return Told(loops, within(visiting.visits, records, values), within(trips.time, records, values),
                 list(islice(states(records, values), MOST_STAGES)))
 
 

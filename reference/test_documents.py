@@ -11,7 +11,7 @@ from typing import NamedTuple
 import known
 import picture
 from calls import answer, c_call, program_text
-from nest import loop_reports
+from nest import loop_reports, ways_of
 from pumdalin.answers import Figures
 from pumdalin.inputs import program_input
 from pumdalin.listing_reader import read_listing
@@ -199,13 +199,13 @@ class Picture(unittest.TestCase):
             self.assertEqual(file.read(), picture.svg())
 
     def test_legends(self) -> None:
-        """What the legends say is closed or walked is so, at small N and large."""
+        """What the legends say is closed, ranked or walked is so, at small N and large."""
         ways = [(picture.TRIANGLE, "cc"), (picture.THREE_DEEP, "ccc"), (picture.UNEVEN, "wc"),
-                (picture.CHOICE, "wc"), (picture.CHOICE_IN_TWO, "wwc")]
+                (picture.CHOICE, "rc"), (picture.CHOICE_IN_TWO, "wrc")]
         for sheet, expected in ways:
             for value in (1, 2, picture.LARGEST_PARAMETER, picture.SIZES[-1]):
                 reports = loop_reports(sheet.records, picture.at(value))
-                found = "".join("c" if report.closed else "w" for report in reports)
+                found = ways_of(reports)
                 self.assertEqual(found, expected, sheet.says)
 
 

@@ -17,7 +17,7 @@ from generate import AT_LIMITS, SIZES, cases, long_case, long_records, parameter
 from known import TOO_MANY_TRIPS, LARGEST_TERMS, ZERO
 from long_calls import LARGEST_FIGURE, LONG_C_CALLS, LONG_CONVERSIONS, LONG_TEXTS, LONG_WRITES
 from long_sheets import COUNTED, COUNTS, LONG_SHEETS, SORTS
-from nest import ceiling_refusal
+from nest import ceiling_refusal, ways_of
 from newton import newton
 from pumdalin.answers import Figures, Refusal
 from pumdalin.inputs import program_input
@@ -38,7 +38,7 @@ class LongSheets(unittest.TestCase):
                 self.assertEqual(answer(line.sheet, line.parameters, line.budget), line.answer)
                 if isinstance(line.answer, Figures):
                     found = reports(line.sheet, line.parameters)
-                    self.assertEqual("".join("c" if one.closed else "w" for one in found), line.ways)
+                    self.assertEqual(ways_of(found), line.ways)
                     self.assertEqual([one.ceiling for one in found], line.ceilings)
 
     def test_counts(self) -> None:
@@ -127,7 +127,7 @@ class LongCalls(unittest.TestCase):
                 self.assertEqual(program_text(case.data).decode(), case.text)
 
     def test_texts_of_sheets(self) -> None:
-        """A refusal's text is its line; an answer's has a line a loop, and one more for each that is walked."""
+        """A refusal's text is its line; an answer's has a line a loop, and one more for each that is not closed."""
         for line in LONG_SHEETS:
             text = program_text(program_input(line.sheet, line.parameters, line.budget)).decode()
             if isinstance(line.answer, Refusal):
@@ -135,7 +135,7 @@ class LongCalls(unittest.TestCase):
             else:
                 first, *loops = text.splitlines()
                 self.assertEqual(first, "best {} worst {} visits {}".format(*line.answer), line.tells)
-                self.assertEqual(len(loops), len(line.ways) + line.ways.count("w"), line.tells)
+                self.assertEqual(len(loops), len(line.ways) + line.ways.count("w") + line.ways.count("r"), line.tells)
 
     def test_input(self) -> None:
         """The longest sheet is past the bytes that `bound` looked at before, and within those that it looks at."""

@@ -25,7 +25,7 @@ from example_states import states_file
 from generate import SIZES, cases, parameters, valid_records
 from known import TOO_MANY_TRIPS, MARKED, OTHERS, TRIANGLE, UNIT, ZERO, Known, form, loop, span
 from known_reasons import KnownReasons
-from nest import ceiling_refusal, loop_reports
+from nest import ceiling_refusal, loop_reports, ways_of
 from pumdalin.answers import Figures, Refusal
 from pumdalin.records import COST_LIMIT, END, LOOP, SKIP_LOOP, WORK, Choice, End, Form, NextArm, encode, encode_all
 from readings import READINGS, TELLING, Reading, parse_file, parse_requests
@@ -38,16 +38,12 @@ SHEETS = int(os.environ.get("SHEETS", "600"))
 TRIPS = 3000
 
 
-def ways_of(sheet: bytes, values: tuple[int, ...]) -> str:
-    return "".join("c" if report.closed else "w" for report in reports(sheet, values))
-
-
 class KnownSheets(unittest.TestCase):
     def check(self, case: Known) -> None:
         with self.subTest(case.tells):
             self.assertEqual(answer(case.sheet(), case.parameters, case.budget), case.answer)
             if isinstance(case.answer, Figures):
-                self.assertEqual(ways_of(case.sheet(), case.parameters), case.ways)
+                self.assertEqual(ways_of(reports(case.sheet(), case.parameters)), case.ways)
 
     def test_marked(self) -> None:
         for case in MARKED:
@@ -97,7 +93,7 @@ class SheetFiles(unittest.TestCase):
                 self.assertEqual(result, reading.answer)
                 if isinstance(result, Figures):
                     found = reports(reading.sheet, reading.parameters)
-                    self.assertEqual(ways_of(reading.sheet, reading.parameters), reading.ways)
+                    self.assertEqual(ways_of(found), reading.ways)
                     self.assertEqual([r.ceiling for r in found], reading.ceilings)
 
 

@@ -15,7 +15,7 @@ from counting_down import TELLING_DOWN
 from known_reasons import DOWN, KnownReasons
 from nest import (
     Range, counts_down, difference_of, form_range, index_range, loop_reports, push, pushed, stride_size, subtract,
-    value,
+    value, ways_of,
 )
 from pumdalin.answers import Answer, Refusal
 from pumdalin.inputs import Parameters
@@ -117,7 +117,7 @@ class WrongReadings(unittest.TestCase):
         if isinstance(result, Refusal):
             return result, "", []
         found = reports(line.sheet, line.parameters)
-        return result, "".join("c" if one.closed else "w" for one in found), [one.ceiling for one in found]
+        return result, ways_of(found), [one.ceiling for one in found]
 
     def reasons(self, case: KnownReasons) -> list[Optional[Reason]]:
         return [report.reason for report in loop_reports(case.records, case.parameters)]

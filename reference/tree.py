@@ -89,6 +89,11 @@ def loops_in(body: Body) -> list[LoopNode]:
     return found
 
 
+def choices_directly_in(body: Body) -> list[ChoiceNode]:
+    """The choices of a body that stand in no loop and no arm of it."""
+    return [node for node in body if isinstance(node, ChoiceNode)]
+
+
 def choices_in(body: Body) -> list[ChoiceNode]:
     """All choices of a body, at any depth, in sheet order."""
     found: list[ChoiceNode] = []

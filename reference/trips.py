@@ -1,8 +1,8 @@
-"""The trip by trip reckoning: times by going over every trip, visits by their definition."""
+"""The trip by trip reckoning: times by going over every trip."""
 
 from typing import NamedTuple
 
-from nest import LoopFacts, difference_of, facts, trips_for, value
+from nest import difference_of, trips_for, value
 from pumdalin.inputs import Parameters
 from pumdalin.records import Loop, Record, Work
 from sheet import skip_of
@@ -107,38 +107,4 @@ def trips(records: list[Record], parameters: Parameters, limit: int) -> int:
     """The trips that the reckoning above goes over, those of inner loops included."""
     meter = Meter(limit)
     body_time(tree(records), [], parameters, meter)
-    return meter.count
-
-
-def to_visit(trip_count: int, fact: LoopFacts) -> int:
-    """How many trips of an entry are visited."""
-    if fact.closed:
-        return min(trip_count, fact.height + 1)
-    return trip_count
-
-
-def visit_body(
-    body: Body,
-    indexes: list[int],
-    parameters: Parameters,
-    known: dict[int, LoopFacts],
-    meter: Meter,
-) -> None:
-    """Counts the visits of a body: those of its loops, each entered once; all arms count."""
-    for node in body:
-        if isinstance(node, ChoiceNode):
-            for arm in node.arms:
-                visit_body(arm, indexes, parameters, known, meter)
-        elif isinstance(node, LoopNode):
-            trip_count = trips_of(node.loop, indexes, parameters)
-            for counter in range(to_visit(trip_count, known[node.position])):
-                meter.add_one()
-                index = index_of(node.loop, counter, indexes, parameters)
-                visit_body(node.body, indexes + [index], parameters, known, meter)
-
-
-def visits(records: list[Record], parameters: Parameters, limit: int) -> int:
-    """The sheet's visits by their definition; TooMany if there are more than `limit`."""
-    meter = Meter(limit)
-    visit_body(tree(records), [], parameters, facts(records, parameters), meter)
     return meter.count

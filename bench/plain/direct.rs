@@ -1,6 +1,7 @@
 //! The figures by recursion over the records, with no stages: each entry of a loop works through the trips to be visited.
+use super::arms::Arms;
 use super::newton;
-use super::plan::{Plan, Refused, CHOICE, DEEPEST, LOOP, WORK};
+use super::plan::{Class, Plan, Refused, CHOICE, DEEPEST, LOOP, WORK};
 use super::sums::{hull, plus, Sums};
 
 struct Walk<'a> {
@@ -8,6 +9,7 @@ struct Walk<'a> {
     counters: [i64; DEEPEST],
     visits: u64,
     budget: u64,
+    arms: Arms,
 }
 
 impl Walk<'_> {
@@ -30,34 +32,63 @@ impl Walk<'_> {
 
     /// One entry of a loop. Once the visits pass the budget it ends at once, since no figure is asked for then.
     fn entry(&mut self, at: usize) -> Sums {
-        let [start, step] = self.plan.records[at].costs;
-        let step = u64::from(step);
         let entered = &self.plan.loops[self.plan.records[at].number as usize];
         let trips = entered.trips(&self.counters);
+        let first = entered.first_trips(trips);
+        let mut total = [entered.entry_cost(self.plan.records[at].costs[0], trips); 2];
         let mut visited = [[0; 2]; DEEPEST];
-        let mut total = [entered.entry_cost(start, trips); 2];
-        let count = entered.visited(trips);
-        for counter in 0..count {
-            self.visits += 1;
-            if self.visits > self.budget {
-                return total;
-            }
-            self.counters[entered.depth] = counter as i64;
-            let trip = plus(self.body(at + 1).0, [step; 2]);
-            if entered.limit == 0 {
-                total = plus(total, trip);
-            } else {
-                visited[counter as usize] = trip;
+        for counter in 0..first {
+            match self.trip(at, counter) {
+                Some(trip) => visited[counter as usize] = trip,
+                None => return total,
             }
         }
-        if entered.limit == 0 { total } else { plus(total, newton::sums(trips, count, &visited)) }
+        if self.is_summed(entered.class, first) {
+            return plus(total, newton::sums(trips, first, &visited));
+        }
+        total = visited[..first as usize].iter().fold(total, |sum, trip| plus(sum, *trip));
+        for counter in first..trips {
+            match self.trip(at, counter) {
+                Some(trip) => total = plus(total, trip),
+                None => return total,
+            }
+        }
+        total
+    }
+
+    /// A visit; nothing where it is one too many.
+    fn trip(&mut self, at: usize, counter: u64) -> Option<Sums> {
+        self.visits += 1;
+        if self.visits > self.budget {
+            return None;
+        }
+        let [_, step] = self.plan.records[at].costs;
+        self.counters[self.plan.loops[self.plan.records[at].number as usize].depth] = counter as i64;
+        Some(plus(self.body(at + 1).0, [u64::from(step); 2]))
+    }
+
+    /// Whether the trips after the first ones follow from these.
+    fn is_summed(&mut self, class: Class, first: u64) -> bool {
+        if class != Class::Ranked || first == 0 {
+            return class == Class::Closed;
+        }
+        let settled = self.arms.are_settled(first);
+        self.arms.clear();
+        settled
     }
 
     fn arms(&mut self, at: usize) -> Sums {
-        let end = self.plan.records[at].partner as usize;
+        let choice = &self.plan.records[at];
+        let keeps = self.plan.keeps_arms(choice, &self.counters);
         let (mut sums, mut last) = self.body(at + 1);
-        while last < end {
+        if keeps {
+            self.arms.keep(sums, true);
+        }
+        while last < choice.partner as usize {
             let (arm, next) = self.body(last + 1);
+            if keeps {
+                self.arms.keep(arm, false);
+            }
             sums = hull(sums, arm);
             last = next;
         }
@@ -68,7 +99,7 @@ impl Walk<'_> {
 pub fn figures(sheet: &[u8], parameters: [i16; 4], budget: u32) -> Result<[u64; 3], Refused> {
     let mut plan = Plan::new();
     plan.fill(sheet, parameters, budget)?;
-    let mut walk = Walk { plan: &plan, counters: [0; DEEPEST], visits: 0, budget: budget as u64 };
+    let mut walk = Walk { plan: &plan, counters: [0; DEEPEST], visits: 0, budget: budget as u64, arms: Arms::new() };
     let ([least, most], _) = walk.body(0);
     if walk.visits > budget as u64 {
         return Err((8, 0));
@@ -80,6 +111,6 @@ pub fn figures(sheet: &[u8], parameters: [i16; 4], budget: u32) -> Result<[u64; 
 pub fn trip_by_trip(sheet: &[u8], parameters: [i16; 4]) -> Result<Sums, Refused> {
     let mut plan = Plan::new();
     plan.fill(sheet, parameters, 1)?;
-    plan.loops.iter_mut().for_each(|l| l.limit = 0);
-    Ok(Walk { plan: &plan, counters: [0; DEEPEST], visits: 0, budget: u64::MAX }.body(0).0)
+    plan.loops.iter_mut().for_each(|l| l.class = Class::Walked);
+    Ok(Walk { plan: &plan, counters: [0; DEEPEST], visits: 0, budget: u64::MAX, arms: Arms::new() }.body(0).0)
 }

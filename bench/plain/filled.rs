@@ -21,6 +21,10 @@ impl<T: Copy, const N: usize> Filled<T, N> {
         self.length += 1;
     }
 
+    pub fn clear(&mut self) {
+        self.length = 0;
+    }
+
     pub fn pop(&mut self) {
         assert!(self.length > 0);
         self.length -= 1;

@@ -1,4 +1,5 @@
 //! The same answers by plain Rust, as one would write it by hand for speed: fixed arrays of which only what the sheet has is filled.
+mod arms;
 pub mod direct;
 mod filled;
 mod form;

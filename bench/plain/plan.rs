@@ -13,7 +13,7 @@ pub const NEXT_ARM: u8 = 5;
 /// In a sheet alone: a record of it is a loop with a skip.
 const SKIP_LOOP: u8 = 6;
 
-const MOST_RECORDS: usize = 128;
+pub const MOST_RECORDS: usize = 128;
 pub const MOST_OPEN: usize = 8;
 pub const DEEPEST: usize = 4;
 /// A loop's body before its skip.
@@ -30,10 +30,20 @@ pub struct Record {
     pub opened: u8,
     /// The record that opened what this one closes, or the end of what it opens.
     pub partner: u8,
-    /// Of a loop: its number among the loops.
+    /// Of a loop: its number among the loops. Of a choice: that of the loop in which it stands directly, or `NO_LOOP`.
     pub number: u8,
     /// A work's least and most, a loop's start and step.
     pub costs: [u16; 2],
+}
+
+const NO_LOOP: u8 = u8::MAX;
+
+/// Each is further from being summed than the one before.
+#[derive(Clone, Copy, PartialEq, Eq, PartialOrd, Ord)]
+pub enum Class {
+    Closed,
+    Ranked,
+    Walked,
 }
 
 #[derive(Clone, Copy)]
@@ -48,7 +58,8 @@ pub struct Loop {
     pub base: i64,
     /// What a trip of each loop around adds to it.
     pub pushes: [i64; 3],
-    /// How many trips of a closed loop are visited at most: height + 1; 0 for a walked one.
+    pub class: Class,
+    /// Height + 1: so many trips a closed loop visits at most, and a ranked one before it decides.
     pub limit: u64,
 }
 
@@ -67,9 +78,9 @@ impl Loop {
         if trips == 0 { self.skip as u64 } else { start as u64 }
     }
 
-    /// How many of its trips are visited.
-    pub fn visited(&self, trips: u64) -> u64 {
-        if self.limit == 0 { trips } else { trips.min(self.limit) }
+    /// Of how many trips its sum is taken by differences; 0 for a walked loop.
+    pub fn first_trips(&self, trips: u64) -> u64 {
+        if self.class == Class::Walked { 0 } else { trips.min(self.limit) }
     }
 }
 
@@ -121,31 +132,42 @@ impl Around {
         self.start[depth] = start;
         self.pushes[depth] = [0; DEEPEST];
         self.pushes[depth][depth] = stride;
-        (Loop { depth, skip: 0, stride_size: stride.abs(), base, pushes, limit: 1 }, smallest, largest)
+        (Loop { depth, skip: 0, stride_size: stride.abs(), base, pushes, class: Class::Closed, limit: 1 }, smallest, largest)
     }
 
-    /// What a loop means for the loops around it: it keeps them from being closed, or they visit a trip more for it.
-    fn limit_outer(&self, inner: &Loop, start: u16, smallest: i64, choice_depth: usize, loops: &mut [Loop]) {
+    /// What a loop means for the loops around it: it keeps them from being closed or ranked, and they may visit a trip more for it.
+    fn limit_outer(&self, inner: &Loop, start: u16, smallest: i64, barred: Barred, loops: &mut [Loop]) {
         let asked = if inner.skip == start { -inner.stride_size } else { 0 };
         let mut even = smallest >= asked;
         for depth in (0..inner.depth).rev() {
             even = even && (inner.stride_size == 1 || inner.pushes[depth] % inner.stride_size == 0);
-            let limit = &mut loops[self.numbers[depth]].limit;
-            if !even || choice_depth > depth {
-                *limit = 0;
-            } else if *limit != 0 {
-                *limit = (*limit).max((inner.depth - depth + 1) as u64);
-            }
+            let outer = &mut loops[self.numbers[depth]];
+            let class = if !even || depth < barred.from_ranking {
+                Class::Walked
+            } else if depth < barred.from_closing {
+                Class::Ranked
+            } else {
+                Class::Closed
+            };
+            outer.class = outer.class.max(class);
+            outer.limit = outer.limit.max((inner.depth - depth + 1) as u64);
         }
     }
+}
+
+/// How many of the loops around, from the outermost on, the innermost choice bars if it holds a loop.
+#[derive(Clone, Copy)]
+struct Barred {
+    from_closing: usize,
+    /// All but the loop in which it stands directly.
+    from_ranking: usize,
 }
 
 #[derive(Clone, Copy)]
 struct Open {
     record: usize,
     is_loop: bool,
-    /// How many loops stand around the innermost choice here.
-    choice_depth: usize,
+    barred: Barred,
 }
 
 struct Reader<'a> {
@@ -159,12 +181,20 @@ struct Reader<'a> {
 }
 
 impl Reader<'_> {
-    fn opens(&mut self, kind: u8, choice_depth: usize) -> Result<(), u32> {
+    fn opens(&mut self, kind: u8, barred: Barred) -> Result<(), u32> {
         if self.open.len() == MOST_OPEN || (kind == LOOP && self.depth == DEEPEST) {
             return Err(5);
         }
-        self.open.push(Open { record: self.plan.records.len(), is_loop: kind == LOOP, choice_depth });
+        self.open.push(Open { record: self.plan.records.len(), is_loop: kind == LOOP, barred });
         Ok(())
+    }
+
+    /// The number of the loop that is the innermost open record.
+    fn loop_directly_around(&self) -> u8 {
+        match self.open.last() {
+            Some(open) if open.is_loop => self.plan.records[open.record].number,
+            _ => NO_LOOP,
+        }
     }
 
     /// The record that an end or a next arm belongs to.
@@ -181,7 +211,7 @@ impl Reader<'_> {
         Ok(opener.record as u8)
     }
 
-    fn enters(&mut self, body: &[u8], costs: [u16; 2], choice_depth: usize, at: usize) -> Result<(), u32> {
+    fn enters(&mut self, body: &[u8], costs: [u16; 2], barred: Barred, at: usize) -> Result<(), u32> {
         let stride = number(&body[4..]) as i16 as i64;
         let lower = Form::read(&body[6..15], self.parameters);
         let upper = Form::read(&body[15..24], self.parameters);
@@ -191,13 +221,13 @@ impl Reader<'_> {
         if !cheap || !(1..=LARGEST_STRIDE).contains(&stride.abs()) || !enclosed {
             return Err(3);
         }
-        self.opens(LOOP, choice_depth)?;
+        self.opens(LOOP, barred)?;
         let (mut entered, smallest, largest) = self.around.enter(self.depth, self.plan.loops.len(), stride, &lower, &upper);
         entered.skip = skip;
         if largest >= MOST_TRIPS * entered.stride_size && self.over_ceiling.is_none() {
             self.over_ceiling = Some(at);
         }
-        self.around.limit_outer(&entered, costs[0], smallest, choice_depth, &mut self.plan.loops);
+        self.around.limit_outer(&entered, costs[0], smallest, barred, &mut self.plan.loops);
         self.plan.loops.push(entered);
         self.depth += 1;
         Ok(())
@@ -205,7 +235,7 @@ impl Reader<'_> {
 
     fn record(&mut self, kind: u8, body: &[u8], at: usize) -> Result<(), u32> {
         let opened = self.open.len() as u8;
-        let choice_depth = self.open.last().map_or(0, |o| o.choice_depth);
+        let barred = self.open.last().map_or(Barred { from_closing: 0, from_ranking: 0 }, |o| o.barred);
         let mut record = Record { kind, opened, partner: 0, number: self.plan.loops.len() as u8, costs: [0; 2] };
         match kind {
             WORK => {
@@ -217,9 +247,13 @@ impl Reader<'_> {
             LOOP | SKIP_LOOP => {
                 record.kind = LOOP;
                 record.costs = [number(body), number(&body[2..])];
-                self.enters(body, record.costs, choice_depth, at)?;
+                self.enters(body, record.costs, barred, at)?;
             }
-            CHOICE => self.opens(CHOICE, self.depth)?,
+            CHOICE => {
+                record.number = self.loop_directly_around();
+                let from_ranking = self.depth - (record.number != NO_LOOP) as usize;
+                self.opens(CHOICE, Barred { from_closing: self.depth, from_ranking })?;
+            }
             _ => record.partner = self.closes(kind)?,
         }
         self.plan.records.push(record);
@@ -240,6 +274,14 @@ fn body_length(kind: u8) -> Option<usize> {
 impl Plan {
     pub fn new() -> Plan {
         Plan { records: Filled::new(), loops: Filled::new() }
+    }
+
+    /// Whether the arms of this choice are kept: it stands directly in one of the first trips of a ranked loop.
+    pub fn keeps_arms(&self, choice: &Record, counters: &[i64; DEEPEST]) -> bool {
+        match self.loops.get(choice.number as usize) {
+            Some(open) => open.class == Class::Ranked && (counters[open.depth] as u64) < open.limit,
+            None => false,
+        }
     }
 
     pub fn fill(&mut self, sheet: &[u8], parameters: [i16; 4], budget: u32) -> Result<(), Refused> {

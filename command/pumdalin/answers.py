@@ -35,7 +35,14 @@ PLACED_REFUSALS = (*range(1, 7), SKIP_DIFFERS)
 FIXED_REFUSALS = (7, *READER_REFUSALS)
 
 
-# The sorts of reasons why a loop is walked, and their lines: the offsets are those of a choice C, of a loop K inside the
+# A loop's class, in the word that its line has for it. A ranked loop is summed like a closed one where its first trips show
+# which arm of each choice is the slowest and which the fastest, and is walked otherwise.
+CLOSED = "closed"
+RANKED = "ranked"
+WALKED = "walked"
+LOOP_CLASSES = (CLOSED, RANKED, WALKED)
+
+# The sorts of reasons why a loop is not closed, and their lines: the offsets are those of a choice C, of a loop K inside the
 # loop, of such a loop K and a loop M around it.
 HOLDS_LOOP = "holds-loop"
 TOO_FEW_TRIPS = "too-few-trips"
@@ -49,7 +56,7 @@ REASON_PHRASES = {
 
 
 class Reason(NamedTuple):
-    """Why a loop is walked: the sort, and the offsets that stand in its line."""
+    """Why a loop is not closed: the sort, and the offsets that stand in its line."""
 
     sort: str
     offsets: tuple[int, ...]
@@ -59,15 +66,23 @@ class Reason(NamedTuple):
 
 
 class LoopReport(NamedTuple):
-    """What a loop's line says of it, and the line after it where the loop is walked."""
+    """What a loop's line says of it, and the line after it where the loop is not closed."""
 
     offset: int
-    closed: bool
+    loop_class: str
     ceiling: int
     reason: Optional[Reason] = None
 
+    @property
+    def closed(self) -> bool:
+        return self.loop_class == CLOSED
+
+    def fields(self) -> dict[str, object]:
+        """For JSON, without the reason."""
+        return {"offset": self.offset, "class": self.loop_class, "closed": self.closed, "ceiling": self.ceiling}
+
     def verdict(self) -> str:
-        return f"{'closed' if self.closed else 'walked'} ceiling {self.ceiling}"
+        return f"{self.loop_class} ceiling {self.ceiling}"
 
     def text(self) -> str:
         return f"{self.offset} {self.verdict()}"
@@ -89,7 +104,7 @@ NUMBER = "(0|[1-9][0-9]{0,19})"
 
 FIGURES_LINE = re.compile(f"best {NUMBER} worst {NUMBER} visits {NUMBER}")
 REFUSAL_LINE = re.compile(f"refused {NUMBER} at {NUMBER}")
-LOOP_LINE = re.compile(f"loop {NUMBER} (closed|walked) ceiling {NUMBER}")
+LOOP_LINE = re.compile(f"loop {NUMBER} ({'|'.join(LOOP_CLASSES)}) ceiling {NUMBER}")
 REASON_LINES = {sort: re.compile(phrase.replace("{}", NUMBER)) for sort, phrase in REASON_PHRASES.items()}
 
 
@@ -100,7 +115,7 @@ def read_report(text: str) -> Report:
 
 
 def read_loops(lines: list[str]) -> list[LoopReport]:
-    """The loops of these lines: each has its own, and a walked one its reason's after it."""
+    """The loops of these lines: each has its own, and one that is not closed its reason's after it."""
     loops: list[LoopReport] = []
     remaining = iter(lines)
     for line in remaining:
@@ -121,7 +136,7 @@ def read_loop_line(line: str) -> LoopReport:
     found = LOOP_LINE.fullmatch(line)
     if found is None:
         raise ValueError(f"no loop's line: {line!r}")
-    return LoopReport(int(found[1]), found[2] == "closed", int(found[3]))
+    return LoopReport(int(found[1]), found[2], int(found[3]))
 
 
 def read_reason_line(line: str) -> Reason:

@@ -1,4 +1,4 @@
-"""Hints: what in a refused record may be meant, and how a walked loop may become closed. They are the command's own."""
+"""Hints: what in a refused record may be meant, and how a loop that is not closed may be summed. They are the command's own."""
 
 from typing import NamedTuple, Optional
 
@@ -14,8 +14,10 @@ from pumdalin.records import (
 # What to change in the code, and in the listing with it, so that the test which failed holds: choice {0}; loop {0}; loop {0} in
 # loop {1}. What depends on the direction of loop {0} has a name.
 REASON_HINTS = {
-    HOLDS_LOOP: "in code and listing alike, put {0} inside each innermost loop that it holds, where an arm without that "
-                "loop is empty; what an arm has beside its loops gets a choice of its own, before or after them",
+    HOLDS_LOOP: "in the listing alone, write a choice that stands in an arm, as that of an else if, as further arms of the "
+                "choice around it: the loop is ranked where only choices directly in it hold loops; or, in code and listing "
+                "alike, put {0} inside each innermost loop that it holds, where an arm without that loop is empty; what an arm "
+                "has beside its loops gets a choice of its own, before or after them",
     TOO_FEW_TRIPS: "over the ranges of the indexes around it, {0}{direction} may start past its end by more than {stride}; in "
                    "code and listing alike, limit the loops around it, or change its bounds, so that {difference} >= {least}; "
                    "or, where the code counts {other} from {lower} to {upper}, write {turned} in the listing alone",
@@ -27,6 +29,17 @@ NO_TRIP_HINT = ("over the ranges of the indexes around it, {0}{direction} may ma
                 "start; in code and listing alike, limit the loops around it, or change its bounds, so that {difference} >= 0 "
                 "and it always makes a trip; or let it cost its start without a trip too, and then {difference} >= {least} is "
                 "enough")
+
+# Of a ranked loop, what the visits show, and what to change where every trip is visited: choice {0}.
+RANKED_HINT = ("the loop is summed where in {0}, and in every other choice directly in it, one arm is the slowest and one the "
+               "fastest from the first trips on, with leads that never fall; otherwise every trip is visited, and the visits "
+               "show it. Then, in the listing alone, let it count the other way over the same trips, or part it where the arms "
+               "take as long; or, in code and listing alike, put {0} inside each innermost loop that it holds")
+
+
+def ranked_hint(choice: str) -> str:
+    """A hint for whoever writes the code: the choice that keeps the loop from being closed, by its name."""
+    return RANKED_HINT.format(choice)
 
 
 def reason_hint(reason: Reason, first: Record, names: list[str]) -> str:

@@ -261,12 +261,12 @@ def read_expectation(line: Line, listing: Listing) -> None:
 
 
 def read_loop_report(line: Line) -> LoopReport:
-    """A loop's line as `bound` prints it and, after a colon, that of the reason why it is walked."""
+    """A loop's line as `bound` prints it and, after a colon, that of the reason why it is not closed."""
     first = line.next()
     try:
         (loop,) = read_loops([part.strip() for part in line.take_rest().split(":")])
     except ValueError:
-        line.fail("write a loop as bound prints it and, if it is walked, a colon and the reason: "
+        line.fail("write a loop as bound prints it and, if it is not closed, a colon and the reason: "
                   "loop 25 closed ceiling 9, or loop 0 walked ceiling 10: loop 25 is uneven in loop 0", first)
     return loop
 

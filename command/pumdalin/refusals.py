@@ -40,8 +40,8 @@ REFUSALS = {
     7: Words("the budget is out of its range", CALLER, "give another budget",
              f"a budget is 1 to {LARGEST_BUDGET:,} visits"),
     8: Words("the sheet takes more visits than the budget", CALLER,
-             "give a larger budget, or a sheet with fewer walked loops (an answer with figures, such as one at smaller "
-             "parameter values, says why each is walked)",
+             "give a larger budget, or a sheet with fewer walked or ranked loops (an answer with figures, such as one at "
+             "smaller parameter values, says why each is not closed)",
              f"a budget is 1 to {LARGEST_BUDGET:,} visits"),
     SKIP_DIFFERS: Words("this loop's skip differs from its start, and a loop of kind 2 has no skip of its own", WRITER,
                         "give the loop a skip that equals its start, if that is what the code costs without a trip, or leave "

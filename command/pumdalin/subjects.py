@@ -2,11 +2,11 @@
 
 from typing import Optional, Union
 
-from pumdalin.answers import FIXED_REFUSALS, PLACED_REFUSALS, LoopReport, Reason, Refusal, Report
+from pumdalin.answers import FIXED_REFUSALS, PLACED_REFUSALS, RANKED, LoopReport, Reason, Refusal, Report
 from pumdalin.characters import decoded
 from pumdalin.errors import CommandError, ListingError
 from pumdalin.files import read_file, shown_name, tell
-from pumdalin.hints import bytes_hint, listing_hint, reason_hint
+from pumdalin.hints import bytes_hint, listing_hint, ranked_hint, reason_hint
 from pumdalin.inputs import LARGEST_BUDGET, filled, without_value
 from pumdalin.library import Library
 from pumdalin.listing_reader import AnyExpectation, Entry, Listing, read_listing
@@ -170,16 +170,20 @@ def refusal_object(subject: Subject, refusal: Refusal) -> dict[str, object]:
 
 
 def loop_lines(subject: Subject, loop: LoopReport) -> list[str]:
-    """What is said of a loop; after a walked one, why it is walked and what to change."""
+    """What is said of a loop; after one that is not closed, why and what to change."""
     if loop.reason is None:
         return [subject.loop_line(loop)]
-    hint = hint_to(subject, loop.reason)
+    hint = hint_to(subject, loop)
     return [subject.loop_line(loop), f"  {subject.reason_line(loop.reason)}", f"  hint: {hint}"]
 
 
-def hint_to(subject: Subject, reason: Reason) -> str:
-    names = [subject.name_at(offset) for offset in reason.offsets]
-    return reason_hint(reason, subject.record_at(reason.offsets[0]), names)
+def hint_to(subject: Subject, loop: LoopReport) -> str:
+    """The hint to a loop that is not closed."""
+    assert loop.reason is not None
+    names = [subject.name_at(offset) for offset in loop.reason.offsets]
+    if loop.loop_class == RANKED:
+        return ranked_hint(names[0])
+    return reason_hint(loop.reason, subject.record_at(loop.reason.offsets[0]), names)
 
 
 def tell_refusal(subject: Subject, refusal: Refusal) -> None:

@@ -201,8 +201,8 @@ class Reasons(CommandTest):
 
     def test_listings(self) -> None:
         for name, said in {
-            "rinse": ["line 15: loop i walked ceiling 16", "  choice 30 holds a loop: the choice of line 17",
-                      "line 18: loop j closed ceiling 8", "line 22: loop j closed ceiling 8"],
+            "rinse": ["line 16: loop i walked ceiling 16", "  choice 30 holds a loop: the choice of line 18",
+                      "line 19: loop j closed ceiling 8", "line 25: loop j closed ceiling 8"],
             "ramp": ["line 13: loop i walked ceiling 12", "  loop 30 may fall below no trips: the loop j of line 15",
                      "line 15: loop j closed ceiling 8"],
             "purge": ["line 15: loop i walked ceiling 12", "  loop 32 may fall below no trips: the loop j of line 17",
@@ -221,20 +221,20 @@ class Reasons(CommandTest):
             self.assertTrue(all(re.fullmatch("line .* closed ceiling .*", line) for line in changed), changed)
 
     def test_choice_put_inside(self) -> None:
-        """Only inside each innermost loop it lets the loops around be closed; halfway the visits rise."""
+        """Only inside each innermost loop it lets the loops around be closed; halfway the visits rise. The first is settled."""
         for before, after, visits in [
-            (CHOICE_OF_NEST, NEST_WITH_CHOICES, (50, 15)),
+            (CHOICE_OF_NEST, NEST_WITH_CHOICES, (15, 15)),
             (CHOICE_OF_TWO, TWO_WITH_CHOICES, (30, 6)),
         ]:
-            walked, closed = self.file("before.listing", before), self.file("after.listing", after)
-            self.assertEqual(self.shown(walked)[:2],
-                             ["line 1: loop i walked ceiling 10", "  choice 25 holds a loop: the choice of line 2"])
-            self.assertNotIn(" walked ", "\n".join(self.shown(closed)))
-            answers = [json.loads(run(path, "--json").stdout)["answer"] for path in (walked, closed)]
+            ranked, closed = self.file("before.listing", before), self.file("after.listing", after)
+            self.assertEqual(self.shown(ranked)[:2],
+                             ["line 1: loop i ranked ceiling 10", "  choice 25 holds a loop: the choice of line 2"])
+            self.assertTrue(all(" closed " in line for line in self.shown(closed)))
+            answers = [json.loads(run(path, "--json").stdout)["answer"] for path in (ranked, closed)]
             self.assertEqual(tuple(said["visits"] for said in answers), visits)
         halfway = self.file("halfway.listing", NEST_WITH_CHOICE_HALFWAY)
-        self.assertEqual(self.shown(halfway)[:4:2], ["line 1: loop i walked ceiling 10", "line 2: loop j walked ceiling 4"])
-        self.assertEqual(json.loads(run(halfway, "--json").stdout)["answer"]["visits"], 90)
+        self.assertEqual(self.shown(halfway)[:4:2], ["line 1: loop i walked ceiling 10", "line 2: loop j ranked ceiling 4"])
+        self.assertEqual(json.loads(run(halfway, "--json").stdout)["answer"]["visits"], 50)
 
     def test_uneven_mended(self) -> None:
         """By the outer stride, or by a factor of the inner bounds; the inner stride 1 may make the trips too few."""
@@ -280,11 +280,11 @@ class Reasons(CommandTest):
     def test_printed(self) -> None:
         sheet = self.sheet((WALKED / "rinse.listing").read_text())
         first, *_ = run("print", sheet, "--parameters", "16", "8").stdout.decode().splitlines()[1:]
-        self.assertEqual(first, "loop i 0..p1-1 start 2 step 3      # 0 walked ceiling 16: choice 30 holds a loop")
+        self.assertEqual(first, "loop i 0..p1-1 start 2 step 3        # 0 walked ceiling 16: choice 30 holds a loop")
 
     def test_json(self) -> None:
         for name, said in {
-            "rinse": ("holds-loop", [30], [17], "choice 30 holds a loop"),
+            "rinse": ("holds-loop", [30], [18], "choice 30 holds a loop"),
             "ramp": ("too-few-trips", [30], [15], "loop 30 may fall below no trips"),
             "purge": ("too-few-trips", [32], [17], "loop 32 may fall below no trips"),
             "meter": ("uneven", [30, 0], [14, 12], "loop 30 is uneven in loop 0"),
@@ -311,7 +311,8 @@ class Reasons(CommandTest):
             f"{listing}:9: {asked} 1 expected loop 25 closed ceiling 2, answered refused 8 at 0"])
         said = json.loads(run(listing, "--json").stdout)["expectations"]
         self.assertEqual([check["holds"] for check in said], [False, True, False])
-        self.assertEqual(said[0]["answered"], {"offset": 0, "closed": False, "ceiling": 4, "reason": "loop 25 is uneven in loop 0"})
+        self.assertEqual(said[0]["answered"], {"offset": 0, "class": "walked", "closed": False, "ceiling": 4,
+                                               "reason": "loop 25 is uneven in loop 0"})
 
     def test_readme(self) -> None:
         """What the README shows of each sort, and of a skip, is what the command prints, up to the expectations."""
@@ -334,8 +335,8 @@ class AsJson(CommandTest):
         figures = {"least": 1054, "most": 1977, "visits": 4}
         self.assertEqual(json.loads(ended.stdout), {
             "file": str(DISPENSE), "parameters": [16, 0, 0, 0], "budget": 100, "answer": figures, "refusal": None,
-            "loops": [{"line": 14, "index": "i", "offset": 5, "closed": True, "ceiling": 16, "reason": None},
-                      {"line": 16, "index": "j", "offset": 35, "closed": True, "ceiling": 16, "reason": None}],
+            "loops": [{"line": 14, "index": "i", "offset": 5, "class": "closed", "closed": True, "ceiling": 16, "reason": None},
+                      {"line": 16, "index": "j", "offset": 35, "class": "closed", "closed": True, "ceiling": 16, "reason": None}],
             "expectations": [{"line": 25, "parameters": [16, 0, 0, 0], "budget": 100, "expected": figures,
                               "answered": figures, "holds": True}]})
 
@@ -351,7 +352,7 @@ class AsJson(CommandTest):
 
     def test_bytes(self) -> None:
         said = json.loads(run("--bytes", "--json", self.sheet("loop i 0..9\nwork 1\nend")).stdout)
-        self.assertEqual(said["loops"], [{"offset": 0, "closed": True, "ceiling": 10, "reason": None}])
+        self.assertEqual(said["loops"], [{"offset": 0, "class": "closed", "closed": True, "ceiling": 10, "reason": None}])
 
     def test_figures_that_doubles_do_not_hold(self) -> None:
         """Also those of the longest body of the deepest nest, which are above 2^62."""

@@ -3,7 +3,7 @@
 import unittest
 from typing import Callable
 
-from pumdalin.answers import Figures, LoopReport, Refusal
+from pumdalin.answers import CLOSED, Figures, LoopReport, Refusal
 from pumdalin.characters import decoded
 from pumdalin.errors import ListingError
 from pumdalin.hints import listing_hint
@@ -14,7 +14,7 @@ from pumdalin.records import (
 )
 
 TRIANGLE = [Loop(0, 0, 1, Form(0), Form(9)), Loop(0, 0, 1, Form(0), Form(-1, (1, 0, 0))), Work(1, 1), End(), End()]
-TRIANGLE_LOOPS = [LoopReport(0, True, 10), LoopReport(25, True, 9)]
+TRIANGLE_LOOPS = [LoopReport(0, CLOSED, 10), LoopReport(25, CLOSED, 9)]
 TRIANGLE_LISTING = """\
 parameters 3
 budget 100

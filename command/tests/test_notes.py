@@ -8,7 +8,7 @@ import unittest
 from pathlib import Path
 from typing import Optional
 
-from pumdalin.answers import TOO_FEW_TRIPS, LoopReport, Reason
+from pumdalin.answers import CLOSED, TOO_FEW_TRIPS, WALKED, LoopReport, Reason
 from pumdalin.listing_reader import read_listing
 from pumdalin.notes import Asked, direction_note
 from pumdalin.subjects import ListingSubject, SheetSubject
@@ -31,7 +31,7 @@ BOTH_WAYS = "write i..1 by -1 to count down, or 1..i to count up"
 def nest_reports(outer: int, inner: int, inner_fails: bool = True) -> list[LoopReport]:
     """What is said of the nest's loops with these ceilings; the inner one may start far past its end, or not."""
     reason = Reason(TOO_FEW_TRIPS, (INNER,)) if inner_fails else None
-    return [LoopReport(0, not inner_fails, outer, reason), LoopReport(INNER, True, inner)]
+    return [LoopReport(0, WALKED if inner_fails else CLOSED, outer, reason), LoopReport(INNER, CLOSED, inner)]
 
 
 class Fixed(unittest.TestCase):
@@ -122,7 +122,7 @@ class Slanted(unittest.TestCase):
         self.assertIsNone(self.note("i..1", nest_reports(2, 1, inner_fails=False)))
 
     def test_another_loop_fails(self) -> None:
-        other = [LoopReport(0, False, 16, Reason(TOO_FEW_TRIPS, (57,))), LoopReport(INNER, True, 1), LoopReport(57, True, 0)]
+        other = [LoopReport(0, WALKED, 16, Reason(TOO_FEW_TRIPS, (57,))), LoopReport(INNER, CLOSED, 1), LoopReport(57, CLOSED, 0)]
         self.assertIsNone(self.note("i..1", other))
 
     def test_around_it_no_trip(self) -> None:

@@ -6,7 +6,8 @@ The texts are those that `bound` prints for these sheets, reckoned apart from th
 import unittest
 
 from pumdalin.answers import (
-    HOLDS_LOOP, TOO_FEW_TRIPS, UNEVEN, Figures, LoopReport, Reason, Refusal, Report, read_loops, read_reason_line, read_report,
+    CLOSED, HOLDS_LOOP, TOO_FEW_TRIPS, UNEVEN, WALKED, Figures, LoopReport, Reason, Refusal, Report, read_loops, read_reason_line,
+    read_report,
 )
 from pumdalin.commands.answer import Check, check_object, loop_object, said_of, said_text
 from pumdalin.errors import ListingError
@@ -36,8 +37,8 @@ loop 25 walked ceiling 10
 loop 50 is uneven in loop 25
 loop 50 closed ceiling 10
 """
-NESTED_LOOPS = [LoopReport(0, False, 10, Reason(UNEVEN, (50, 0))), LoopReport(25, False, 10, Reason(UNEVEN, (50, 25))),
-                LoopReport(50, True, 10)]
+NESTED_LOOPS = [LoopReport(0, WALKED, 10, Reason(UNEVEN, (50, 0))), LoopReport(25, WALKED, 10, Reason(UNEVEN, (50, 25))),
+                LoopReport(50, CLOSED, 10)]
 
 
 def listing_subject(text: str) -> ListingSubject:
@@ -74,9 +75,9 @@ class Reading(unittest.TestCase):
     def test_text(self) -> None:
         self.assertEqual(read_report(NESTED_TEXT), Report(Figures(525, 1050, 210), NESTED_LOOPS))
         self.assertEqual(read_report(IN_ARM_TEXT).loops,
-                         [LoopReport(0, False, 10, Reason(HOLDS_LOOP, (25,))), LoopReport(27, True, 9)])
+                         [LoopReport(0, WALKED, 10, Reason(HOLDS_LOOP, (25,))), LoopReport(27, CLOSED, 9)])
         self.assertEqual(read_report(TOO_FEW_TEXT).loops,
-                         [LoopReport(0, False, 10, Reason(TOO_FEW_TRIPS, (25,))), LoopReport(25, True, 4)])
+                         [LoopReport(0, WALKED, 10, Reason(TOO_FEW_TRIPS, (25,))), LoopReport(25, CLOSED, 4)])
         self.assertEqual(read_report("refused 6 at 0\n"), Report(Refusal(6, 0), []))
 
     def test_damaged_texts(self) -> None:
@@ -105,8 +106,10 @@ class Showing(unittest.TestCase):
         self.assertEqual(lines_of(listing_subject(IN_ARM), IN_ARM_TEXT), [
             "line 1: loop i walked ceiling 10",
             "  choice 25 holds a loop: the choice of line 2",
-            "  hint: in code and listing alike, put the choice of line 2 inside each innermost loop that it holds, where an arm "
-            "without that loop is empty; what an arm has beside its loops gets a choice of its own, before or after them",
+            "  hint: in the listing alone, write a choice that stands in an arm, as that of an else if, as further arms of the "
+            "choice around it: the loop is ranked where only choices directly in it hold loops; or, in code and listing alike, "
+            "put the choice of line 2 inside each innermost loop that it holds, where an arm without that loop is empty; what "
+            "an arm has beside its loops gets a choice of its own, before or after them",
             "line 4: loop j closed ceiling 9"])
         shown = lines_of(sheet_subject(IN_ARM), IN_ARM_TEXT)
         self.assertEqual(shown[:2], ["loop 0 walked ceiling 10", "  choice 25 holds a loop"])
@@ -151,12 +154,12 @@ class Showing(unittest.TestCase):
         listing, sheet = listing_subject(NESTED), sheet_subject(NESTED)
         hint = loop_lines(listing, NESTED_LOOPS[1])[2].removeprefix("  hint: ")
         self.assertEqual(loop_object(listing, NESTED_LOOPS[1]), {
-            "line": 2, "index": "j", "offset": 25, "closed": False, "ceiling": 10,
+            "line": 2, "index": "j", "offset": 25, "class": "walked", "closed": False, "ceiling": 10,
             "reason": {"sort": "uneven", "offsets": (50, 25), "lines": [3, 2], "printed": "loop 50 is uneven in loop 25",
                        "hint": hint}})
         hint = loop_lines(sheet, NESTED_LOOPS[0])[2].removeprefix("  hint: ")
         self.assertEqual(loop_object(sheet, NESTED_LOOPS[0]), {
-            "offset": 0, "closed": False, "ceiling": 10,
+            "offset": 0, "class": "walked", "closed": False, "ceiling": 10,
             "reason": {"sort": "uneven", "offsets": (50, 0), "printed": "loop 50 is uneven in loop 0", "hint": hint}})
         self.assertIsNone(loop_object(listing, NESTED_LOOPS[2])["reason"])
 
@@ -182,7 +185,7 @@ class Expecting(unittest.TestCase):
                         "expect  loop 25 walked ceiling 10 :loop 50 is  uneven in loop 25"):
             self.assertEqual(self.expected(written), NESTED_LOOPS[1])
         for reason, line in REASONS.items():
-            self.assertEqual(self.expected(f"expect loop 0 walked ceiling 3: {line}"), LoopReport(0, False, 3, reason))
+            self.assertEqual(self.expected(f"expect loop 0 walked ceiling 3: {line}"), LoopReport(0, WALKED, 3, reason))
 
     def test_written_as_read(self) -> None:
         for loop in NESTED_LOOPS:
@@ -193,14 +196,14 @@ class Expecting(unittest.TestCase):
         """Parameters and budget are those above it, and the first expectation's are the listing's."""
         loop = "expect loop 0 closed ceiling 5"
         listing = read_listing(f"parameters 5\nbudget 7\n{loop}\nloop i 1..p1\nend\nparameters 6\nexpect 0 0 visits 1\n{loop}")
-        self.assertEqual(listing.loop_expectations, [Expectation(3, (5,), 7, LoopReport(0, True, 5)),
-                                                     Expectation(8, (6,), 7, LoopReport(0, True, 5))])
+        self.assertEqual(listing.loop_expectations, [Expectation(3, (5,), 7, LoopReport(0, CLOSED, 5)),
+                                                     Expectation(8, (6,), 7, LoopReport(0, CLOSED, 5))])
         self.assertEqual([said.line for said in listing.all_expectations()], [3, 7, 8])
         self.assertEqual(listing.given(), ((5,), 7))
 
     def test_mistakes(self) -> None:
         for written, column, words in [
-            ("expect loop 0 walked ceiling 10", 8, "write a loop as bound prints it and, if it is walked, a colon and the reason"),
+            ("expect loop 0 walked ceiling 10", 8, "write a loop as bound prints it and, if it is not closed, a colon and the reason"),
             ("expect loop 0 walked ceiling 10:", 8, "write a loop as bound prints it"),
             ("expect loop 0 closed ceiling 10: loop 50 is uneven in loop 0", 8, "write a loop as bound prints it"),
             ("expect loop 0 walked ceiling 10: loop 50 is odd in loop 0", 8, "write a loop as bound prints it"),
@@ -228,7 +231,7 @@ class Expecting(unittest.TestCase):
         self.assertEqual(said_of(NESTED_LOOPS[0], Report(Refusal(8, 0), [])), Refusal(8, 0))
         self.assertEqual(said_of(Figures(1, 2, 3), report), report.answer)
         for expected, holds in [(NESTED_LOOPS[0], True), (NESTED_LOOPS[0]._replace(reason=NESTED_LOOPS[1].reason), False),
-                                (NESTED_LOOPS[0]._replace(ceiling=9), False), (LoopReport(0, True, 10), False)]:
+                                (NESTED_LOOPS[0]._replace(ceiling=9), False), (LoopReport(0, CLOSED, 10), False)]:
             self.assertEqual(Check(Expectation(9, (), 5, expected), NESTED_LOOPS[0], []).holds(), holds)
         self.assertFalse(Check(Expectation(9, (), 5, NESTED_LOOPS[0]), Refusal(8, 0), []).holds())
 
@@ -236,8 +239,8 @@ class Expecting(unittest.TestCase):
         said = check_object(Check(Expectation(9, (), 5, NESTED_LOOPS[2]), NESTED_LOOPS[0], NESTED_LOOPS))
         self.assertEqual(said, {
             "line": 9, "parameters": (0, 0, 0, 0), "budget": 5, "holds": False,
-            "expected": {"offset": 50, "closed": True, "ceiling": 10, "reason": None},
-            "answered": {"offset": 0, "closed": False, "ceiling": 10, "reason": "loop 50 is uneven in loop 0"}})
+            "expected": {"offset": 50, "class": "closed", "closed": True, "ceiling": 10, "reason": None},
+            "answered": {"offset": 0, "class": "walked", "closed": False, "ceiling": 10, "reason": "loop 50 is uneven in loop 0"}})
 
 
 if __name__ == "__main__":

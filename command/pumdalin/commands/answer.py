@@ -5,7 +5,7 @@ import json
 from typing import NamedTuple, Optional, Union
 
 from pumdalin import VERSION
-from pumdalin.answers import Answer, Figures, LoopReport, Reason, Refusal, Report
+from pumdalin.answers import Answer, Figures, LoopReport, Refusal, Report
 from pumdalin.arguments import add_budget, add_bytes, add_file, add_parameters, parser_for
 from pumdalin.errors import ANSWERED, REFUSED, CommandError
 from pumdalin.files import tell, write_text
@@ -18,7 +18,7 @@ from pumdalin.subjects import Subject, ask, hint_to, loop_lines, read_subject, r
 
 DESCRIPTION = """\
 Least and most cycles that the code of a sheet can take, the visits that the answer
-took, and what is said of each loop, with the reason where it is walked, all from the
+took, and what is said of each loop, with the reason where it is not closed, all from the
 proved calls. Every `expect` of the listing is checked."""
 
 # Readers of JSON that keep numbers as doubles round those above.
@@ -156,14 +156,15 @@ def write_json(outcome: Outcome) -> None:
 
 
 def loop_object(subject: Subject, loop: LoopReport) -> dict[str, object]:
-    return {**subject.loop_at(loop.offset), **loop._asdict(), "reason": reason_object(subject, loop.reason)}
+    return {**subject.loop_at(loop.offset), **loop.fields(), "reason": reason_object(subject, loop)}
 
 
-def reason_object(subject: Subject, reason: Optional[Reason]) -> Optional[dict[str, object]]:
+def reason_object(subject: Subject, loop: LoopReport) -> Optional[dict[str, object]]:
     """The reason; `printed` is its line as `bound` prints it."""
+    reason = loop.reason
     if reason is None:
         return None
-    return {**reason._asdict(), **subject.lines_of(reason), "printed": reason.text(), "hint": hint_to(subject, reason)}
+    return {**reason._asdict(), **subject.lines_of(reason), "printed": reason.text(), "hint": hint_to(subject, loop)}
 
 
 def check_object(check: Check) -> dict[str, object]:
@@ -173,5 +174,6 @@ def check_object(check: Check) -> dict[str, object]:
 
 def said_object(said: Said) -> dict[str, object]:
     """What is expected or answered; of a loop's reason, which may be expected wrongly, the line alone."""
-    reason = {"reason": said.reason and said.reason.text()} if isinstance(said, LoopReport) else {}
-    return {**said._asdict(), **reason}
+    if isinstance(said, LoopReport):
+        return {**said.fields(), "reason": said.reason and said.reason.text()}
+    return said._asdict()

@@ -43,7 +43,7 @@ module _ (rows differences limits : List ℕ) (count : ℕ) where
       unfolding passFollowing followingAt
       body-loop h e p = ap (λ (p : Passage). p .after) (onward {f = ofLoop} (simp (lt-ltb (t .at) count h, e))) ∙ p
 
-      pub body-choice : {v u : StateParts} → t .at < count → isOfLoop rows (t .at) ≡ false → passChoice rows t ≡ v
+      pub body-choice : {v u : StateParts} → t .at < count → isOfLoop rows (t .at) ≡ false → passChoice rows limits t ≡ v
           → body (left - 1) depth v .after ≡ u → body left depth s .after ≡ u
       unfolding passFollowing followingAt
       body-choice h e c p =

@@ -32,7 +32,7 @@ module _ (rows differences limits : List ℕ) where
   unfoldable pub passFollowing : Following → Further → Further
   passFollowing nothing further depth s = goesOn depth s
   passFollowing ofLoop further depth s = loopEvaluator further depth s
-  passFollowing ofChoice further depth s = further depth (passChoice rows s)
+  passFollowing ofChoice further depth s = further depth (passChoice rows limits s)
 
   module _ (count : ℕ) where
     -- The body evaluator: what follows one another, with at most so many records that are no straight work.

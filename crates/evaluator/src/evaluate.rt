@@ -53,7 +53,7 @@ pub(crate) fn evaluate_body(
             opened,
         );
     }
-    pass_choice(rows, at, sums, opened);
+    pass_choice(rows, limits, at, sums, opened);
     evaluate_body(
         rows,
         differences,

@@ -6,7 +6,7 @@ use lib.IntN.{pos, negsuc}
 use lib.ListN.{drop}
 use Rattle.meaning.specs.Record.{Loop, Record, workRecord, loopRecord, endRecord, choiceRecord, nextArmRecord}
 use Rattle.meaning.specs.Time.{bounds}
-use Rattle.meaning.specs.Stage.{loopFrame, choiceFrame, state}
+use Rattle.meaning.specs.Stage.{loopFrame, choiceFrame, keptArms, state, stateKeeping}
 use Rattle.meaning.proofs.Vocabulary.{zeroParameters, form, loopOf, skipLoopOf, stateAfter}
 use Rattle.meaning.proofs.Computes.{computes}
 
@@ -117,7 +117,7 @@ pub states-4 :
 unfolding computes
 states-4 = (refl, refl, refl, refl, refl, refl, refl, refl, refl, refl, refl, refl, refl, refl, refl, refl, refl, refl)
 
--- 5. walked: a loop in an arm
+-- 5. ranked, not settled: a loop in an arm
 abbrev loop5-0 : Loop
 loop5-0 = loopOf 0 0 (pos 1) (form (pos 0) (pos 0 ∷ pos 0 ∷ pos 0 ∷ []) (pos 0 ∷ pos 0 ∷ pos 0 ∷ pos 0 ∷ [])) (form (pos 9) (pos 0 ∷ pos 0 ∷ pos 0 ∷ []) (pos 0 ∷ pos 0 ∷ pos 0 ∷ pos 0 ∷ []))
 
@@ -130,8 +130,8 @@ records5 = loopRecord loop5-0 ∷ choiceRecord ∷ loopRecord loop5-2 ∷ workRe
 pub states-5 :
     (stateAfter 0 records5 zeroParameters ≡ state (drop 0 records5) (bounds 0 0) [] 0)
     × (stateAfter 1 records5 zeroParameters ≡ state (drop 1 records5) (bounds 0 0) (loopFrame loop5-0 (drop 1 records5) 0 [] (bounds 0 0) ∷ []) 1)
-    × (stateAfter 2 records5 zeroParameters ≡ state (drop 1 records5) (bounds 0 0) (loopFrame loop5-0 (drop 1 records5) 1 (bounds 0 4 ∷ []) (bounds 0 0) ∷ []) 2)
-    × (stateAfter 3 records5 zeroParameters ≡ state (drop 3 records5) (bounds 0 0) (loopFrame loop5-2 (drop 3 records5) 0 [] (bounds 0 0) ∷ choiceFrame none (bounds 0 0) ∷ loopFrame loop5-0 (drop 1 records5) 1 (bounds 0 4 ∷ []) (bounds 0 0) ∷ []) 3)
+    × (stateAfter 2 records5 zeroParameters ≡ stateKeeping (keptArms ((bounds 0 0 ∷ bounds 4 4 ∷ []) ∷ []) []) (drop 1 records5) (bounds 0 0) (loopFrame loop5-0 (drop 1 records5) 1 (bounds 0 4 ∷ []) (bounds 0 0) ∷ []) 2)
+    × (stateAfter 3 records5 zeroParameters ≡ stateKeeping (keptArms ((bounds 0 0 ∷ bounds 4 4 ∷ []) ∷ []) []) (drop 3 records5) (bounds 0 0) (loopFrame loop5-2 (drop 3 records5) 0 [] (bounds 0 0) ∷ choiceFrame none (bounds 0 0) ∷ loopFrame loop5-0 (drop 1 records5) 1 (bounds 0 4 ∷ []) (bounds 0 0) ∷ []) 3)
     × (stateAfter 4 records5 zeroParameters ≡ state (drop 1 records5) (bounds 0 0) (loopFrame loop5-0 (drop 1 records5) 2 (bounds 1 8 ∷ []) (bounds 0 0) ∷ []) 4)
     × (stateAfter 5 records5 zeroParameters ≡ state (drop 3 records5) (bounds 0 0) (loopFrame loop5-2 (drop 3 records5) 0 [] (bounds 0 0) ∷ choiceFrame none (bounds 0 0) ∷ loopFrame loop5-0 (drop 1 records5) 2 (bounds 1 8 ∷ []) (bounds 0 0) ∷ []) 5)
     × (stateAfter 6 records5 zeroParameters ≡ state (drop 1 records5) (bounds 0 0) (loopFrame loop5-0 (drop 1 records5) 3 (bounds 3 12 ∷ []) (bounds 0 0) ∷ []) 6)
@@ -228,7 +228,7 @@ pub states-9 :
 unfolding computes
 states-9 = (refl, refl, refl, refl, refl)
 
--- 10. a closed nest in a walked loop
+-- 10. a closed nest in a ranked loop
 abbrev loop10-0 : Loop
 loop10-0 = loopOf 3 1 (pos 1) (form (pos 0) (pos 0 ∷ pos 0 ∷ pos 0 ∷ []) (pos 0 ∷ pos 0 ∷ pos 0 ∷ pos 0 ∷ [])) (form (pos 2) (pos 0 ∷ pos 0 ∷ pos 0 ∷ []) (pos 0 ∷ pos 0 ∷ pos 0 ∷ pos 0 ∷ []))
 
@@ -248,16 +248,16 @@ pub states-10 :
     × (stateAfter 3 records10 zeroParameters ≡ state (drop 4 records10) (bounds 0 0) (loopFrame loop10-3 (drop 4 records10) 0 [] (bounds 0 0) ∷ loopFrame loop10-2 (drop 3 records10) 0 [] (bounds 1 1) ∷ choiceFrame none (bounds 0 0) ∷ loopFrame loop10-0 (drop 1 records10) 0 [] (bounds 3 3) ∷ []) 3)
     × (stateAfter 4 records10 zeroParameters ≡ state (drop 3 records10) (bounds 0 0) (loopFrame loop10-2 (drop 3 records10) 1 (bounds 4 5 ∷ []) (bounds 1 1) ∷ choiceFrame none (bounds 0 0) ∷ loopFrame loop10-0 (drop 1 records10) 0 [] (bounds 3 3) ∷ []) 4)
     × (stateAfter 5 records10 zeroParameters ≡ state (drop 4 records10) (bounds 0 0) (loopFrame loop10-3 (drop 4 records10) 0 [] (bounds 0 0) ∷ loopFrame loop10-2 (drop 3 records10) 1 (bounds 4 5 ∷ []) (bounds 1 1) ∷ choiceFrame none (bounds 0 0) ∷ loopFrame loop10-0 (drop 1 records10) 0 [] (bounds 3 3) ∷ []) 5)
-    × (stateAfter 6 records10 zeroParameters ≡ state (drop 1 records10) (bounds 0 0) (loopFrame loop10-0 (drop 1 records10) 1 (bounds 7 61 ∷ []) (bounds 3 3) ∷ []) 6)
-    × (stateAfter 7 records10 zeroParameters ≡ state (drop 3 records10) (bounds 0 0) (loopFrame loop10-2 (drop 3 records10) 0 [] (bounds 1 1) ∷ choiceFrame none (bounds 0 0) ∷ loopFrame loop10-0 (drop 1 records10) 1 (bounds 7 61 ∷ []) (bounds 3 3) ∷ []) 7)
-    × (stateAfter 8 records10 zeroParameters ≡ state (drop 4 records10) (bounds 0 0) (loopFrame loop10-3 (drop 4 records10) 0 [] (bounds 0 0) ∷ loopFrame loop10-2 (drop 3 records10) 0 [] (bounds 1 1) ∷ choiceFrame none (bounds 0 0) ∷ loopFrame loop10-0 (drop 1 records10) 1 (bounds 7 61 ∷ []) (bounds 3 3) ∷ []) 8)
-    × (stateAfter 9 records10 zeroParameters ≡ state (drop 3 records10) (bounds 0 0) (loopFrame loop10-2 (drop 3 records10) 1 (bounds 4 5 ∷ []) (bounds 1 1) ∷ choiceFrame none (bounds 0 0) ∷ loopFrame loop10-0 (drop 1 records10) 1 (bounds 7 61 ∷ []) (bounds 3 3) ∷ []) 9)
-    × (stateAfter 10 records10 zeroParameters ≡ state (drop 4 records10) (bounds 0 0) (loopFrame loop10-3 (drop 4 records10) 0 [] (bounds 0 0) ∷ loopFrame loop10-2 (drop 3 records10) 1 (bounds 4 5 ∷ []) (bounds 1 1) ∷ choiceFrame none (bounds 0 0) ∷ loopFrame loop10-0 (drop 1 records10) 1 (bounds 7 61 ∷ []) (bounds 3 3) ∷ []) 10)
-    × (stateAfter 11 records10 zeroParameters ≡ state (drop 1 records10) (bounds 0 0) (loopFrame loop10-0 (drop 1 records10) 2 (bounds 14 122 ∷ []) (bounds 3 3) ∷ []) 11)
-    × (stateAfter 12 records10 zeroParameters ≡ state (drop 3 records10) (bounds 0 0) (loopFrame loop10-2 (drop 3 records10) 0 [] (bounds 1 1) ∷ choiceFrame none (bounds 0 0) ∷ loopFrame loop10-0 (drop 1 records10) 2 (bounds 14 122 ∷ []) (bounds 3 3) ∷ []) 12)
-    × (stateAfter 13 records10 zeroParameters ≡ state (drop 4 records10) (bounds 0 0) (loopFrame loop10-3 (drop 4 records10) 0 [] (bounds 0 0) ∷ loopFrame loop10-2 (drop 3 records10) 0 [] (bounds 1 1) ∷ choiceFrame none (bounds 0 0) ∷ loopFrame loop10-0 (drop 1 records10) 2 (bounds 14 122 ∷ []) (bounds 3 3) ∷ []) 13)
-    × (stateAfter 14 records10 zeroParameters ≡ state (drop 3 records10) (bounds 0 0) (loopFrame loop10-2 (drop 3 records10) 1 (bounds 4 5 ∷ []) (bounds 1 1) ∷ choiceFrame none (bounds 0 0) ∷ loopFrame loop10-0 (drop 1 records10) 2 (bounds 14 122 ∷ []) (bounds 3 3) ∷ []) 14)
-    × (stateAfter 15 records10 zeroParameters ≡ state (drop 4 records10) (bounds 0 0) (loopFrame loop10-3 (drop 4 records10) 0 [] (bounds 0 0) ∷ loopFrame loop10-2 (drop 3 records10) 1 (bounds 4 5 ∷ []) (bounds 1 1) ∷ choiceFrame none (bounds 0 0) ∷ loopFrame loop10-0 (drop 1 records10) 2 (bounds 14 122 ∷ []) (bounds 3 3) ∷ []) 15)
+    × (stateAfter 6 records10 zeroParameters ≡ stateKeeping (keptArms ((bounds 29 39 ∷ bounds 6 60 ∷ []) ∷ []) []) (drop 1 records10) (bounds 0 0) (loopFrame loop10-0 (drop 1 records10) 1 (bounds 7 61 ∷ []) (bounds 3 3) ∷ []) 6)
+    × (stateAfter 7 records10 zeroParameters ≡ stateKeeping (keptArms ((bounds 29 39 ∷ bounds 6 60 ∷ []) ∷ []) []) (drop 3 records10) (bounds 0 0) (loopFrame loop10-2 (drop 3 records10) 0 [] (bounds 1 1) ∷ choiceFrame none (bounds 0 0) ∷ loopFrame loop10-0 (drop 1 records10) 1 (bounds 7 61 ∷ []) (bounds 3 3) ∷ []) 7)
+    × (stateAfter 8 records10 zeroParameters ≡ stateKeeping (keptArms ((bounds 29 39 ∷ bounds 6 60 ∷ []) ∷ []) []) (drop 4 records10) (bounds 0 0) (loopFrame loop10-3 (drop 4 records10) 0 [] (bounds 0 0) ∷ loopFrame loop10-2 (drop 3 records10) 0 [] (bounds 1 1) ∷ choiceFrame none (bounds 0 0) ∷ loopFrame loop10-0 (drop 1 records10) 1 (bounds 7 61 ∷ []) (bounds 3 3) ∷ []) 8)
+    × (stateAfter 9 records10 zeroParameters ≡ stateKeeping (keptArms ((bounds 29 39 ∷ bounds 6 60 ∷ []) ∷ []) []) (drop 3 records10) (bounds 0 0) (loopFrame loop10-2 (drop 3 records10) 1 (bounds 4 5 ∷ []) (bounds 1 1) ∷ choiceFrame none (bounds 0 0) ∷ loopFrame loop10-0 (drop 1 records10) 1 (bounds 7 61 ∷ []) (bounds 3 3) ∷ []) 9)
+    × (stateAfter 10 records10 zeroParameters ≡ stateKeeping (keptArms ((bounds 29 39 ∷ bounds 6 60 ∷ []) ∷ []) []) (drop 4 records10) (bounds 0 0) (loopFrame loop10-3 (drop 4 records10) 0 [] (bounds 0 0) ∷ loopFrame loop10-2 (drop 3 records10) 1 (bounds 4 5 ∷ []) (bounds 1 1) ∷ choiceFrame none (bounds 0 0) ∷ loopFrame loop10-0 (drop 1 records10) 1 (bounds 7 61 ∷ []) (bounds 3 3) ∷ []) 10)
+    × (stateAfter 11 records10 zeroParameters ≡ stateKeeping (keptArms ((bounds 29 39 ∷ bounds 6 60 ∷ []) ∷ (bounds 41 56 ∷ bounds 6 60 ∷ []) ∷ []) []) (drop 1 records10) (bounds 0 0) (loopFrame loop10-0 (drop 1 records10) 2 (bounds 7 61 ∷ bounds 7 61 ∷ []) (bounds 3 3) ∷ []) 11)
+    × (stateAfter 12 records10 zeroParameters ≡ stateKeeping (keptArms ((bounds 29 39 ∷ bounds 6 60 ∷ []) ∷ (bounds 41 56 ∷ bounds 6 60 ∷ []) ∷ []) []) (drop 3 records10) (bounds 0 0) (loopFrame loop10-2 (drop 3 records10) 0 [] (bounds 1 1) ∷ choiceFrame none (bounds 0 0) ∷ loopFrame loop10-0 (drop 1 records10) 2 (bounds 7 61 ∷ bounds 7 61 ∷ []) (bounds 3 3) ∷ []) 12)
+    × (stateAfter 13 records10 zeroParameters ≡ stateKeeping (keptArms ((bounds 29 39 ∷ bounds 6 60 ∷ []) ∷ (bounds 41 56 ∷ bounds 6 60 ∷ []) ∷ []) []) (drop 4 records10) (bounds 0 0) (loopFrame loop10-3 (drop 4 records10) 0 [] (bounds 0 0) ∷ loopFrame loop10-2 (drop 3 records10) 0 [] (bounds 1 1) ∷ choiceFrame none (bounds 0 0) ∷ loopFrame loop10-0 (drop 1 records10) 2 (bounds 7 61 ∷ bounds 7 61 ∷ []) (bounds 3 3) ∷ []) 13)
+    × (stateAfter 14 records10 zeroParameters ≡ stateKeeping (keptArms ((bounds 29 39 ∷ bounds 6 60 ∷ []) ∷ (bounds 41 56 ∷ bounds 6 60 ∷ []) ∷ []) []) (drop 3 records10) (bounds 0 0) (loopFrame loop10-2 (drop 3 records10) 1 (bounds 4 5 ∷ []) (bounds 1 1) ∷ choiceFrame none (bounds 0 0) ∷ loopFrame loop10-0 (drop 1 records10) 2 (bounds 7 61 ∷ bounds 7 61 ∷ []) (bounds 3 3) ∷ []) 14)
+    × (stateAfter 15 records10 zeroParameters ≡ stateKeeping (keptArms ((bounds 29 39 ∷ bounds 6 60 ∷ []) ∷ (bounds 41 56 ∷ bounds 6 60 ∷ []) ∷ []) []) (drop 4 records10) (bounds 0 0) (loopFrame loop10-3 (drop 4 records10) 0 [] (bounds 0 0) ∷ loopFrame loop10-2 (drop 3 records10) 1 (bounds 4 5 ∷ []) (bounds 1 1) ∷ choiceFrame none (bounds 0 0) ∷ loopFrame loop10-0 (drop 1 records10) 2 (bounds 7 61 ∷ bounds 7 61 ∷ []) (bounds 3 3) ∷ []) 15)
     × (stateAfter 16 records10 zeroParameters ≡ state (drop 11 records10) (bounds 24 202) [] 15)
     × (stateAfter 17 records10 zeroParameters ≡ state (drop 11 records10) (bounds 24 202) [] 15)
 unfolding computes
@@ -498,23 +498,171 @@ pub states-20 :
 unfolding computes
 states-20 = (refl, refl, refl, refl, refl, refl, refl, refl, refl)
 
--- 21. parameters, a negative factor, strides
+-- 21. ranked, settled: two choices, a work between them, a loop in each
 abbrev loop21-0 : Loop
-loop21-0 = loopOf 0 0 (pos 3) (form (pos 0) (pos 0 ∷ pos 0 ∷ pos 0 ∷ []) (pos 1 ∷ pos 0 ∷ pos 0 ∷ pos 0 ∷ [])) (form (pos 0) (pos 0 ∷ pos 0 ∷ pos 0 ∷ []) (pos 1 ∷ pos 0 ∷ pos 2 ∷ pos 0 ∷ []))
+loop21-0 = loopOf 3 1 (pos 1) (form (pos 0) (pos 0 ∷ pos 0 ∷ pos 0 ∷ []) (pos 0 ∷ pos 0 ∷ pos 0 ∷ pos 0 ∷ [])) (form (pos 4) (pos 0 ∷ pos 0 ∷ pos 0 ∷ []) (pos 0 ∷ pos 0 ∷ pos 0 ∷ pos 0 ∷ []))
 
-abbrev loop21-2 : Loop
-loop21-2 = loopOf 2 0 (pos 2) (form (pos 1) (negsuc 0 ∷ pos 0 ∷ pos 0 ∷ []) (pos 0 ∷ pos 0 ∷ pos 0 ∷ pos 0 ∷ [])) (form (pos 20) (negsuc 0 ∷ pos 0 ∷ pos 0 ∷ []) (pos 0 ∷ negsuc 0 ∷ pos 0 ∷ pos 0 ∷ []))
+abbrev loop21-3 : Loop
+loop21-3 = loopOf 1 0 (pos 1) (form (pos 0) (pos 0 ∷ pos 0 ∷ pos 0 ∷ []) (pos 0 ∷ pos 0 ∷ pos 0 ∷ pos 0 ∷ [])) (form (pos 0) (pos 1 ∷ pos 0 ∷ pos 0 ∷ []) (pos 0 ∷ pos 0 ∷ pos 0 ∷ pos 0 ∷ []))
+
+abbrev loop21-11 : Loop
+loop21-11 = loopOf 0 2 (pos 1) (form (pos 0) (pos 0 ∷ pos 0 ∷ pos 0 ∷ []) (pos 0 ∷ pos 0 ∷ pos 0 ∷ pos 0 ∷ [])) (form (negsuc 0) (pos 1 ∷ pos 0 ∷ pos 0 ∷ []) (pos 0 ∷ pos 0 ∷ pos 0 ∷ pos 0 ∷ []))
 
 abbrev records21 : List Record
-records21 = loopRecord loop21-0 ∷ workRecord 1 2 ∷ loopRecord loop21-2 ∷ workRecord 5 6 ∷ endRecord ∷ endRecord ∷ []
+records21 = loopRecord loop21-0 ∷ choiceRecord ∷ workRecord 1 2 ∷ loopRecord loop21-3 ∷ workRecord 2 3 ∷ endRecord ∷ nextArmRecord ∷ workRecord 1 1 ∷ endRecord ∷ workRecord 0 4 ∷ choiceRecord ∷ loopRecord loop21-11 ∷ workRecord 1 1 ∷ endRecord ∷ nextArmRecord ∷ endRecord ∷ endRecord ∷ []
 
 pub states-21 :
-    (stateAfter 0 records21 (negsuc 3 ∷ pos 7 ∷ pos 3 ∷ pos 0 ∷ []) ≡ state (drop 0 records21) (bounds 0 0) [] 0)
-    × (stateAfter 1 records21 (negsuc 3 ∷ pos 7 ∷ pos 3 ∷ pos 0 ∷ []) ≡ state (drop 1 records21) (bounds 0 0) (loopFrame loop21-0 (drop 1 records21) 0 [] (bounds 0 0) ∷ []) 1)
-    × (stateAfter 2 records21 (negsuc 3 ∷ pos 7 ∷ pos 3 ∷ pos 0 ∷ []) ≡ state (drop 3 records21) (bounds 0 0) (loopFrame loop21-2 (drop 3 records21) 0 [] (bounds 3 4) ∷ loopFrame loop21-0 (drop 1 records21) 0 [] (bounds 0 0) ∷ []) 2)
-    × (stateAfter 3 records21 (negsuc 3 ∷ pos 7 ∷ pos 3 ∷ pos 0 ∷ []) ≡ state (drop 1 records21) (bounds 0 0) (loopFrame loop21-0 (drop 1 records21) 1 (bounds 38 46 ∷ []) (bounds 0 0) ∷ []) 3)
-    × (stateAfter 4 records21 (negsuc 3 ∷ pos 7 ∷ pos 3 ∷ pos 0 ∷ []) ≡ state (drop 3 records21) (bounds 0 0) (loopFrame loop21-2 (drop 3 records21) 0 [] (bounds 3 4) ∷ loopFrame loop21-0 (drop 1 records21) 1 (bounds 38 46 ∷ []) (bounds 0 0) ∷ []) 4)
-    × (stateAfter 5 records21 (negsuc 3 ∷ pos 7 ∷ pos 3 ∷ pos 0 ∷ []) ≡ state (drop 6 records21) (bounds 114 138) [] 4)
-    × (stateAfter 6 records21 (negsuc 3 ∷ pos 7 ∷ pos 3 ∷ pos 0 ∷ []) ≡ state (drop 6 records21) (bounds 114 138) [] 4)
+    (stateAfter 0 records21 zeroParameters ≡ state (drop 0 records21) (bounds 0 0) [] 0)
+    × (stateAfter 1 records21 zeroParameters ≡ state (drop 1 records21) (bounds 0 0) (loopFrame loop21-0 (drop 1 records21) 0 [] (bounds 3 3) ∷ []) 1)
+    × (stateAfter 2 records21 zeroParameters ≡ state (drop 4 records21) (bounds 0 0) (loopFrame loop21-3 (drop 4 records21) 0 [] (bounds 2 3) ∷ choiceFrame none (bounds 0 0) ∷ loopFrame loop21-0 (drop 1 records21) 0 [] (bounds 3 3) ∷ []) 2)
+    × (stateAfter 3 records21 zeroParameters ≡ stateKeeping (keptArms ((bounds 4 6 ∷ bounds 1 1 ∷ bounds 0 0 ∷ bounds 0 0 ∷ []) ∷ []) []) (drop 1 records21) (bounds 0 0) (loopFrame loop21-0 (drop 1 records21) 1 (bounds 2 11 ∷ []) (bounds 3 3) ∷ []) 3)
+    × (stateAfter 4 records21 zeroParameters ≡ stateKeeping (keptArms ((bounds 4 6 ∷ bounds 1 1 ∷ bounds 0 0 ∷ bounds 0 0 ∷ []) ∷ []) []) (drop 4 records21) (bounds 0 0) (loopFrame loop21-3 (drop 4 records21) 0 [] (bounds 2 3) ∷ choiceFrame none (bounds 0 0) ∷ loopFrame loop21-0 (drop 1 records21) 1 (bounds 2 11 ∷ []) (bounds 3 3) ∷ []) 4)
+    × (stateAfter 5 records21 zeroParameters ≡ stateKeeping (keptArms ((bounds 4 6 ∷ bounds 1 1 ∷ bounds 0 0 ∷ bounds 0 0 ∷ []) ∷ []) (bounds 6 9 ∷ bounds 1 1 ∷ [])) (drop 12 records21) (bounds 0 0) (loopFrame loop21-11 (drop 12 records21) 0 [] (bounds 0 0) ∷ choiceFrame none (bounds 1 13) ∷ loopFrame loop21-0 (drop 1 records21) 1 (bounds 2 11 ∷ []) (bounds 3 3) ∷ []) 5)
+    × (stateAfter 6 records21 zeroParameters ≡ state (drop 17 records21) (bounds 13 118) [] 5)
+    × (stateAfter 7 records21 zeroParameters ≡ state (drop 17 records21) (bounds 13 118) [] 5)
 unfolding computes
-states-21 = (refl, refl, refl, refl, refl, refl, refl)
+states-21 = (refl, refl, refl, refl, refl, refl, refl, refl)
+
+-- 22. ranked, settled, height 2: three arms, a choice without loops in one
+abbrev loop22-0 : Loop
+loop22-0 = loopOf 0 0 (pos 1) (form (pos 0) (pos 0 ∷ pos 0 ∷ pos 0 ∷ []) (pos 0 ∷ pos 0 ∷ pos 0 ∷ pos 0 ∷ [])) (form (pos 5) (pos 0 ∷ pos 0 ∷ pos 0 ∷ []) (pos 0 ∷ pos 0 ∷ pos 0 ∷ pos 0 ∷ []))
+
+abbrev loop22-2 : Loop
+loop22-2 = loopOf 0 1 (pos 1) (form (pos 0) (pos 0 ∷ pos 0 ∷ pos 0 ∷ []) (pos 0 ∷ pos 0 ∷ pos 0 ∷ pos 0 ∷ [])) (form (pos 0) (pos 1 ∷ pos 0 ∷ pos 0 ∷ []) (pos 0 ∷ pos 0 ∷ pos 0 ∷ pos 0 ∷ []))
+
+abbrev loop22-3 : Loop
+loop22-3 = loopOf 0 0 (pos 1) (form (pos 0) (pos 0 ∷ pos 0 ∷ pos 0 ∷ []) (pos 0 ∷ pos 0 ∷ pos 0 ∷ pos 0 ∷ [])) (form (pos 0) (pos 0 ∷ pos 1 ∷ pos 0 ∷ []) (pos 0 ∷ pos 0 ∷ pos 0 ∷ pos 0 ∷ []))
+
+abbrev loop22-14 : Loop
+loop22-14 = loopOf 0 0 (pos 1) (form (pos 0) (pos 0 ∷ pos 0 ∷ pos 0 ∷ []) (pos 0 ∷ pos 0 ∷ pos 0 ∷ pos 0 ∷ [])) (form (pos 0) (pos 1 ∷ pos 0 ∷ pos 0 ∷ []) (pos 0 ∷ pos 0 ∷ pos 0 ∷ pos 0 ∷ []))
+
+abbrev records22 : List Record
+records22 = loopRecord loop22-0 ∷ choiceRecord ∷ loopRecord loop22-2 ∷ loopRecord loop22-3 ∷ workRecord 1 2 ∷ endRecord ∷ endRecord ∷ nextArmRecord ∷ choiceRecord ∷ workRecord 1 1 ∷ nextArmRecord ∷ workRecord 0 2 ∷ endRecord ∷ nextArmRecord ∷ loopRecord loop22-14 ∷ workRecord 1 1 ∷ endRecord ∷ endRecord ∷ endRecord ∷ []
+
+pub states-22 :
+    (stateAfter 0 records22 zeroParameters ≡ state (drop 0 records22) (bounds 0 0) [] 0)
+    × (stateAfter 1 records22 zeroParameters ≡ state (drop 1 records22) (bounds 0 0) (loopFrame loop22-0 (drop 1 records22) 0 [] (bounds 0 0) ∷ []) 1)
+    × (stateAfter 2 records22 zeroParameters ≡ state (drop 3 records22) (bounds 0 0) (loopFrame loop22-2 (drop 3 records22) 0 [] (bounds 0 0) ∷ choiceFrame none (bounds 0 0) ∷ loopFrame loop22-0 (drop 1 records22) 0 [] (bounds 0 0) ∷ []) 2)
+    × (stateAfter 3 records22 zeroParameters ≡ state (drop 4 records22) (bounds 0 0) (loopFrame loop22-3 (drop 4 records22) 0 [] (bounds 0 0) ∷ loopFrame loop22-2 (drop 3 records22) 0 [] (bounds 0 0) ∷ choiceFrame none (bounds 0 0) ∷ loopFrame loop22-0 (drop 1 records22) 0 [] (bounds 0 0) ∷ []) 3)
+    × (stateAfter 4 records22 zeroParameters ≡ stateKeeping (keptArms [] (bounds 2 3 ∷ bounds 0 2 ∷ [])) (drop 15 records22) (bounds 0 0) (loopFrame loop22-14 (drop 15 records22) 0 [] (bounds 0 0) ∷ choiceFrame (some (bounds 0 3)) (bounds 0 0) ∷ loopFrame loop22-0 (drop 1 records22) 0 [] (bounds 0 0) ∷ []) 4)
+    × (stateAfter 5 records22 zeroParameters ≡ stateKeeping (keptArms ((bounds 2 3 ∷ bounds 0 2 ∷ bounds 1 1 ∷ []) ∷ []) []) (drop 1 records22) (bounds 0 0) (loopFrame loop22-0 (drop 1 records22) 1 (bounds 0 3 ∷ []) (bounds 0 0) ∷ []) 5)
+    × (stateAfter 6 records22 zeroParameters ≡ stateKeeping (keptArms ((bounds 2 3 ∷ bounds 0 2 ∷ bounds 1 1 ∷ []) ∷ []) []) (drop 3 records22) (bounds 0 0) (loopFrame loop22-2 (drop 3 records22) 0 [] (bounds 0 0) ∷ choiceFrame none (bounds 0 0) ∷ loopFrame loop22-0 (drop 1 records22) 1 (bounds 0 3 ∷ []) (bounds 0 0) ∷ []) 6)
+    × (stateAfter 7 records22 zeroParameters ≡ stateKeeping (keptArms ((bounds 2 3 ∷ bounds 0 2 ∷ bounds 1 1 ∷ []) ∷ []) []) (drop 4 records22) (bounds 0 0) (loopFrame loop22-3 (drop 4 records22) 0 [] (bounds 0 0) ∷ loopFrame loop22-2 (drop 3 records22) 0 [] (bounds 0 0) ∷ choiceFrame none (bounds 0 0) ∷ loopFrame loop22-0 (drop 1 records22) 1 (bounds 0 3 ∷ []) (bounds 0 0) ∷ []) 7)
+    × (stateAfter 8 records22 zeroParameters ≡ stateKeeping (keptArms ((bounds 2 3 ∷ bounds 0 2 ∷ bounds 1 1 ∷ []) ∷ []) []) (drop 3 records22) (bounds 0 0) (loopFrame loop22-2 (drop 3 records22) 1 (bounds 2 3 ∷ []) (bounds 0 0) ∷ choiceFrame none (bounds 0 0) ∷ loopFrame loop22-0 (drop 1 records22) 1 (bounds 0 3 ∷ []) (bounds 0 0) ∷ []) 8)
+    × (stateAfter 9 records22 zeroParameters ≡ stateKeeping (keptArms ((bounds 2 3 ∷ bounds 0 2 ∷ bounds 1 1 ∷ []) ∷ []) []) (drop 4 records22) (bounds 0 0) (loopFrame loop22-3 (drop 4 records22) 0 [] (bounds 0 0) ∷ loopFrame loop22-2 (drop 3 records22) 1 (bounds 2 3 ∷ []) (bounds 0 0) ∷ choiceFrame none (bounds 0 0) ∷ loopFrame loop22-0 (drop 1 records22) 1 (bounds 0 3 ∷ []) (bounds 0 0) ∷ []) 9)
+    × (stateAfter 10 records22 zeroParameters ≡ stateKeeping (keptArms ((bounds 2 3 ∷ bounds 0 2 ∷ bounds 1 1 ∷ []) ∷ []) (bounds 5 8 ∷ bounds 0 2 ∷ [])) (drop 15 records22) (bounds 0 0) (loopFrame loop22-14 (drop 15 records22) 0 [] (bounds 0 0) ∷ choiceFrame (some (bounds 0 8)) (bounds 0 0) ∷ loopFrame loop22-0 (drop 1 records22) 1 (bounds 0 3 ∷ []) (bounds 0 0) ∷ []) 10)
+    × (stateAfter 11 records22 zeroParameters ≡ stateKeeping (keptArms ((bounds 2 3 ∷ bounds 0 2 ∷ bounds 1 1 ∷ []) ∷ (bounds 5 8 ∷ bounds 0 2 ∷ bounds 2 2 ∷ []) ∷ []) []) (drop 1 records22) (bounds 0 0) (loopFrame loop22-0 (drop 1 records22) 2 (bounds 0 3 ∷ bounds 0 8 ∷ []) (bounds 0 0) ∷ []) 11)
+    × (stateAfter 12 records22 zeroParameters ≡ stateKeeping (keptArms ((bounds 2 3 ∷ bounds 0 2 ∷ bounds 1 1 ∷ []) ∷ (bounds 5 8 ∷ bounds 0 2 ∷ bounds 2 2 ∷ []) ∷ []) []) (drop 3 records22) (bounds 0 0) (loopFrame loop22-2 (drop 3 records22) 0 [] (bounds 0 0) ∷ choiceFrame none (bounds 0 0) ∷ loopFrame loop22-0 (drop 1 records22) 2 (bounds 0 3 ∷ bounds 0 8 ∷ []) (bounds 0 0) ∷ []) 12)
+    × (stateAfter 13 records22 zeroParameters ≡ stateKeeping (keptArms ((bounds 2 3 ∷ bounds 0 2 ∷ bounds 1 1 ∷ []) ∷ (bounds 5 8 ∷ bounds 0 2 ∷ bounds 2 2 ∷ []) ∷ []) []) (drop 4 records22) (bounds 0 0) (loopFrame loop22-3 (drop 4 records22) 0 [] (bounds 0 0) ∷ loopFrame loop22-2 (drop 3 records22) 0 [] (bounds 0 0) ∷ choiceFrame none (bounds 0 0) ∷ loopFrame loop22-0 (drop 1 records22) 2 (bounds 0 3 ∷ bounds 0 8 ∷ []) (bounds 0 0) ∷ []) 13)
+    × (stateAfter 14 records22 zeroParameters ≡ stateKeeping (keptArms ((bounds 2 3 ∷ bounds 0 2 ∷ bounds 1 1 ∷ []) ∷ (bounds 5 8 ∷ bounds 0 2 ∷ bounds 2 2 ∷ []) ∷ []) []) (drop 3 records22) (bounds 0 0) (loopFrame loop22-2 (drop 3 records22) 1 (bounds 2 3 ∷ []) (bounds 0 0) ∷ choiceFrame none (bounds 0 0) ∷ loopFrame loop22-0 (drop 1 records22) 2 (bounds 0 3 ∷ bounds 0 8 ∷ []) (bounds 0 0) ∷ []) 14)
+    × (stateAfter 15 records22 zeroParameters ≡ stateKeeping (keptArms ((bounds 2 3 ∷ bounds 0 2 ∷ bounds 1 1 ∷ []) ∷ (bounds 5 8 ∷ bounds 0 2 ∷ bounds 2 2 ∷ []) ∷ []) []) (drop 4 records22) (bounds 0 0) (loopFrame loop22-3 (drop 4 records22) 0 [] (bounds 0 0) ∷ loopFrame loop22-2 (drop 3 records22) 1 (bounds 2 3 ∷ []) (bounds 0 0) ∷ choiceFrame none (bounds 0 0) ∷ loopFrame loop22-0 (drop 1 records22) 2 (bounds 0 3 ∷ bounds 0 8 ∷ []) (bounds 0 0) ∷ []) 15)
+    × (stateAfter 16 records22 zeroParameters ≡ stateKeeping (keptArms ((bounds 2 3 ∷ bounds 0 2 ∷ bounds 1 1 ∷ []) ∷ (bounds 5 8 ∷ bounds 0 2 ∷ bounds 2 2 ∷ []) ∷ []) (bounds 9 15 ∷ bounds 0 2 ∷ [])) (drop 15 records22) (bounds 0 0) (loopFrame loop22-14 (drop 15 records22) 0 [] (bounds 0 0) ∷ choiceFrame (some (bounds 0 15)) (bounds 0 0) ∷ loopFrame loop22-0 (drop 1 records22) 2 (bounds 0 3 ∷ bounds 0 8 ∷ []) (bounds 0 0) ∷ []) 16)
+    × (stateAfter 17 records22 zeroParameters ≡ state (drop 19 records22) (bounds 0 133) [] 16)
+    × (stateAfter 18 records22 zeroParameters ≡ state (drop 19 records22) (bounds 0 133) [] 16)
+unfolding computes
+states-22 = (refl, refl, refl, refl, refl, refl, refl, refl, refl, refl, refl, refl, refl, refl, refl, refl, refl, refl, refl)
+
+-- 23. ranked, entered anew in a walked loop: settled at i = 1, not settled at i = 2 and 3
+abbrev loop23-0 : Loop
+loop23-0 = loopOf 0 1 (pos 1) (form (pos 1) (pos 0 ∷ pos 0 ∷ pos 0 ∷ []) (pos 0 ∷ pos 0 ∷ pos 0 ∷ pos 0 ∷ [])) (form (pos 3) (pos 0 ∷ pos 0 ∷ pos 0 ∷ []) (pos 0 ∷ pos 0 ∷ pos 0 ∷ pos 0 ∷ []))
+
+abbrev loop23-1 : Loop
+loop23-1 = loopOf 2 0 (pos 1) (form (pos 0) (pos 0 ∷ pos 0 ∷ pos 0 ∷ []) (pos 0 ∷ pos 0 ∷ pos 0 ∷ pos 0 ∷ [])) (form (pos 3) (pos 0 ∷ pos 0 ∷ pos 0 ∷ []) (pos 0 ∷ pos 0 ∷ pos 0 ∷ pos 0 ∷ []))
+
+abbrev loop23-3 : Loop
+loop23-3 = loopOf 0 0 (pos 1) (form (pos 0) (pos 0 ∷ pos 0 ∷ pos 0 ∷ []) (pos 0 ∷ pos 0 ∷ pos 0 ∷ pos 0 ∷ [])) (form (pos 0) (pos 0 ∷ pos 1 ∷ pos 0 ∷ []) (pos 0 ∷ pos 0 ∷ pos 0 ∷ pos 0 ∷ []))
+
+abbrev loop23-7 : Loop
+loop23-7 = loopOf 0 0 (pos 1) (form (pos 1) (pos 0 ∷ pos 0 ∷ pos 0 ∷ []) (pos 0 ∷ pos 0 ∷ pos 0 ∷ pos 0 ∷ [])) (form (pos 0) (pos 1 ∷ pos 0 ∷ pos 0 ∷ []) (pos 0 ∷ pos 0 ∷ pos 0 ∷ pos 0 ∷ []))
+
+abbrev records23 : List Record
+records23 = loopRecord loop23-0 ∷ loopRecord loop23-1 ∷ choiceRecord ∷ loopRecord loop23-3 ∷ workRecord 1 1 ∷ endRecord ∷ nextArmRecord ∷ loopRecord loop23-7 ∷ workRecord 1 1 ∷ endRecord ∷ endRecord ∷ endRecord ∷ endRecord ∷ []
+
+pub states-23 :
+    (stateAfter 0 records23 zeroParameters ≡ state (drop 0 records23) (bounds 0 0) [] 0)
+    × (stateAfter 1 records23 zeroParameters ≡ state (drop 1 records23) (bounds 0 0) (loopFrame loop23-0 (drop 1 records23) 0 [] (bounds 0 0) ∷ []) 1)
+    × (stateAfter 2 records23 zeroParameters ≡ state (drop 2 records23) (bounds 0 0) (loopFrame loop23-1 (drop 2 records23) 0 [] (bounds 2 2) ∷ loopFrame loop23-0 (drop 1 records23) 0 [] (bounds 0 0) ∷ []) 2)
+    × (stateAfter 3 records23 zeroParameters ≡ state (drop 4 records23) (bounds 0 0) (loopFrame loop23-3 (drop 4 records23) 0 [] (bounds 0 0) ∷ choiceFrame none (bounds 0 0) ∷ loopFrame loop23-1 (drop 2 records23) 0 [] (bounds 2 2) ∷ loopFrame loop23-0 (drop 1 records23) 0 [] (bounds 0 0) ∷ []) 3)
+    × (stateAfter 4 records23 zeroParameters ≡ stateKeeping (keptArms [] (bounds 1 1 ∷ [])) (drop 8 records23) (bounds 0 0) (loopFrame loop23-7 (drop 8 records23) 0 [] (bounds 0 0) ∷ choiceFrame (some (bounds 1 1)) (bounds 0 0) ∷ loopFrame loop23-1 (drop 2 records23) 0 [] (bounds 2 2) ∷ loopFrame loop23-0 (drop 1 records23) 0 [] (bounds 0 0) ∷ []) 4)
+    × (stateAfter 5 records23 zeroParameters ≡ stateKeeping (keptArms ((bounds 1 1 ∷ bounds 1 1 ∷ []) ∷ []) []) (drop 2 records23) (bounds 0 0) (loopFrame loop23-1 (drop 2 records23) 1 (bounds 1 1 ∷ []) (bounds 2 2) ∷ loopFrame loop23-0 (drop 1 records23) 0 [] (bounds 0 0) ∷ []) 5)
+    × (stateAfter 6 records23 zeroParameters ≡ stateKeeping (keptArms ((bounds 1 1 ∷ bounds 1 1 ∷ []) ∷ []) []) (drop 4 records23) (bounds 0 0) (loopFrame loop23-3 (drop 4 records23) 0 [] (bounds 0 0) ∷ choiceFrame none (bounds 0 0) ∷ loopFrame loop23-1 (drop 2 records23) 1 (bounds 1 1 ∷ []) (bounds 2 2) ∷ loopFrame loop23-0 (drop 1 records23) 0 [] (bounds 0 0) ∷ []) 6)
+    × (stateAfter 7 records23 zeroParameters ≡ stateKeeping (keptArms ((bounds 1 1 ∷ bounds 1 1 ∷ []) ∷ []) (bounds 2 2 ∷ [])) (drop 8 records23) (bounds 0 0) (loopFrame loop23-7 (drop 8 records23) 0 [] (bounds 0 0) ∷ choiceFrame (some (bounds 2 2)) (bounds 0 0) ∷ loopFrame loop23-1 (drop 2 records23) 1 (bounds 1 1 ∷ []) (bounds 2 2) ∷ loopFrame loop23-0 (drop 1 records23) 0 [] (bounds 0 0) ∷ []) 7)
+    × (stateAfter 8 records23 zeroParameters ≡ state (drop 1 records23) (bounds 0 0) (loopFrame loop23-0 (drop 1 records23) 1 (bounds 7 13 ∷ []) (bounds 0 0) ∷ []) 8)
+    × (stateAfter 9 records23 zeroParameters ≡ state (drop 2 records23) (bounds 0 0) (loopFrame loop23-1 (drop 2 records23) 0 [] (bounds 2 2) ∷ loopFrame loop23-0 (drop 1 records23) 1 (bounds 7 13 ∷ []) (bounds 0 0) ∷ []) 9)
+    × (stateAfter 10 records23 zeroParameters ≡ state (drop 4 records23) (bounds 0 0) (loopFrame loop23-3 (drop 4 records23) 0 [] (bounds 0 0) ∷ choiceFrame none (bounds 0 0) ∷ loopFrame loop23-1 (drop 2 records23) 0 [] (bounds 2 2) ∷ loopFrame loop23-0 (drop 1 records23) 1 (bounds 7 13 ∷ []) (bounds 0 0) ∷ []) 10)
+    × (stateAfter 11 records23 zeroParameters ≡ stateKeeping (keptArms [] (bounds 1 1 ∷ [])) (drop 8 records23) (bounds 0 0) (loopFrame loop23-7 (drop 8 records23) 0 [] (bounds 0 0) ∷ choiceFrame (some (bounds 1 1)) (bounds 0 0) ∷ loopFrame loop23-1 (drop 2 records23) 0 [] (bounds 2 2) ∷ loopFrame loop23-0 (drop 1 records23) 1 (bounds 7 13 ∷ []) (bounds 0 0) ∷ []) 11)
+    × (stateAfter 12 records23 zeroParameters ≡ stateKeeping (keptArms ((bounds 1 1 ∷ bounds 2 2 ∷ []) ∷ []) []) (drop 2 records23) (bounds 0 0) (loopFrame loop23-1 (drop 2 records23) 1 (bounds 1 2 ∷ []) (bounds 2 2) ∷ loopFrame loop23-0 (drop 1 records23) 1 (bounds 7 13 ∷ []) (bounds 0 0) ∷ []) 12)
+    × (stateAfter 13 records23 zeroParameters ≡ stateKeeping (keptArms ((bounds 1 1 ∷ bounds 2 2 ∷ []) ∷ []) []) (drop 4 records23) (bounds 0 0) (loopFrame loop23-3 (drop 4 records23) 0 [] (bounds 0 0) ∷ choiceFrame none (bounds 0 0) ∷ loopFrame loop23-1 (drop 2 records23) 1 (bounds 1 2 ∷ []) (bounds 2 2) ∷ loopFrame loop23-0 (drop 1 records23) 1 (bounds 7 13 ∷ []) (bounds 0 0) ∷ []) 13)
+    × (stateAfter 14 records23 zeroParameters ≡ stateKeeping (keptArms ((bounds 1 1 ∷ bounds 2 2 ∷ []) ∷ []) (bounds 2 2 ∷ [])) (drop 8 records23) (bounds 0 0) (loopFrame loop23-7 (drop 8 records23) 0 [] (bounds 0 0) ∷ choiceFrame (some (bounds 2 2)) (bounds 0 0) ∷ loopFrame loop23-1 (drop 2 records23) 1 (bounds 1 2 ∷ []) (bounds 2 2) ∷ loopFrame loop23-0 (drop 1 records23) 1 (bounds 7 13 ∷ []) (bounds 0 0) ∷ []) 14)
+    × (stateAfter 15 records23 zeroParameters ≡ state (drop 2 records23) (bounds 0 0) (loopFrame loop23-1 (drop 2 records23) 2 (bounds 3 4 ∷ []) (bounds 2 2) ∷ loopFrame loop23-0 (drop 1 records23) 1 (bounds 7 13 ∷ []) (bounds 0 0) ∷ []) 15)
+    × (stateAfter 16 records23 zeroParameters ≡ state (drop 4 records23) (bounds 0 0) (loopFrame loop23-3 (drop 4 records23) 0 [] (bounds 0 0) ∷ choiceFrame none (bounds 0 0) ∷ loopFrame loop23-1 (drop 2 records23) 2 (bounds 3 4 ∷ []) (bounds 2 2) ∷ loopFrame loop23-0 (drop 1 records23) 1 (bounds 7 13 ∷ []) (bounds 0 0) ∷ []) 16)
+    × (stateAfter 17 records23 zeroParameters ≡ state (drop 8 records23) (bounds 0 0) (loopFrame loop23-7 (drop 8 records23) 0 [] (bounds 0 0) ∷ choiceFrame (some (bounds 3 3)) (bounds 0 0) ∷ loopFrame loop23-1 (drop 2 records23) 2 (bounds 3 4 ∷ []) (bounds 2 2) ∷ loopFrame loop23-0 (drop 1 records23) 1 (bounds 7 13 ∷ []) (bounds 0 0) ∷ []) 17)
+    × (stateAfter 18 records23 zeroParameters ≡ state (drop 2 records23) (bounds 0 0) (loopFrame loop23-1 (drop 2 records23) 3 (bounds 5 7 ∷ []) (bounds 2 2) ∷ loopFrame loop23-0 (drop 1 records23) 1 (bounds 7 13 ∷ []) (bounds 0 0) ∷ []) 18)
+    × (stateAfter 19 records23 zeroParameters ≡ state (drop 4 records23) (bounds 0 0) (loopFrame loop23-3 (drop 4 records23) 0 [] (bounds 0 0) ∷ choiceFrame none (bounds 0 0) ∷ loopFrame loop23-1 (drop 2 records23) 3 (bounds 5 7 ∷ []) (bounds 2 2) ∷ loopFrame loop23-0 (drop 1 records23) 1 (bounds 7 13 ∷ []) (bounds 0 0) ∷ []) 19)
+    × (stateAfter 20 records23 zeroParameters ≡ state (drop 8 records23) (bounds 0 0) (loopFrame loop23-7 (drop 8 records23) 0 [] (bounds 0 0) ∷ choiceFrame (some (bounds 4 4)) (bounds 0 0) ∷ loopFrame loop23-1 (drop 2 records23) 3 (bounds 5 7 ∷ []) (bounds 2 2) ∷ loopFrame loop23-0 (drop 1 records23) 1 (bounds 7 13 ∷ []) (bounds 0 0) ∷ []) 20)
+    × (stateAfter 21 records23 zeroParameters ≡ state (drop 1 records23) (bounds 0 0) (loopFrame loop23-0 (drop 1 records23) 2 (bounds 17 27 ∷ []) (bounds 0 0) ∷ []) 21)
+    × (stateAfter 22 records23 zeroParameters ≡ state (drop 2 records23) (bounds 0 0) (loopFrame loop23-1 (drop 2 records23) 0 [] (bounds 2 2) ∷ loopFrame loop23-0 (drop 1 records23) 2 (bounds 17 27 ∷ []) (bounds 0 0) ∷ []) 22)
+    × (stateAfter 23 records23 zeroParameters ≡ state (drop 4 records23) (bounds 0 0) (loopFrame loop23-3 (drop 4 records23) 0 [] (bounds 0 0) ∷ choiceFrame none (bounds 0 0) ∷ loopFrame loop23-1 (drop 2 records23) 0 [] (bounds 2 2) ∷ loopFrame loop23-0 (drop 1 records23) 2 (bounds 17 27 ∷ []) (bounds 0 0) ∷ []) 23)
+    × (stateAfter 24 records23 zeroParameters ≡ stateKeeping (keptArms [] (bounds 1 1 ∷ [])) (drop 8 records23) (bounds 0 0) (loopFrame loop23-7 (drop 8 records23) 0 [] (bounds 0 0) ∷ choiceFrame (some (bounds 1 1)) (bounds 0 0) ∷ loopFrame loop23-1 (drop 2 records23) 0 [] (bounds 2 2) ∷ loopFrame loop23-0 (drop 1 records23) 2 (bounds 17 27 ∷ []) (bounds 0 0) ∷ []) 24)
+    × (stateAfter 25 records23 zeroParameters ≡ stateKeeping (keptArms ((bounds 1 1 ∷ bounds 3 3 ∷ []) ∷ []) []) (drop 2 records23) (bounds 0 0) (loopFrame loop23-1 (drop 2 records23) 1 (bounds 1 3 ∷ []) (bounds 2 2) ∷ loopFrame loop23-0 (drop 1 records23) 2 (bounds 17 27 ∷ []) (bounds 0 0) ∷ []) 25)
+    × (stateAfter 26 records23 zeroParameters ≡ stateKeeping (keptArms ((bounds 1 1 ∷ bounds 3 3 ∷ []) ∷ []) []) (drop 4 records23) (bounds 0 0) (loopFrame loop23-3 (drop 4 records23) 0 [] (bounds 0 0) ∷ choiceFrame none (bounds 0 0) ∷ loopFrame loop23-1 (drop 2 records23) 1 (bounds 1 3 ∷ []) (bounds 2 2) ∷ loopFrame loop23-0 (drop 1 records23) 2 (bounds 17 27 ∷ []) (bounds 0 0) ∷ []) 26)
+    × (stateAfter 27 records23 zeroParameters ≡ stateKeeping (keptArms ((bounds 1 1 ∷ bounds 3 3 ∷ []) ∷ []) (bounds 2 2 ∷ [])) (drop 8 records23) (bounds 0 0) (loopFrame loop23-7 (drop 8 records23) 0 [] (bounds 0 0) ∷ choiceFrame (some (bounds 2 2)) (bounds 0 0) ∷ loopFrame loop23-1 (drop 2 records23) 1 (bounds 1 3 ∷ []) (bounds 2 2) ∷ loopFrame loop23-0 (drop 1 records23) 2 (bounds 17 27 ∷ []) (bounds 0 0) ∷ []) 27)
+    × (stateAfter 28 records23 zeroParameters ≡ state (drop 2 records23) (bounds 0 0) (loopFrame loop23-1 (drop 2 records23) 2 (bounds 3 6 ∷ []) (bounds 2 2) ∷ loopFrame loop23-0 (drop 1 records23) 2 (bounds 17 27 ∷ []) (bounds 0 0) ∷ []) 28)
+    × (stateAfter 29 records23 zeroParameters ≡ state (drop 4 records23) (bounds 0 0) (loopFrame loop23-3 (drop 4 records23) 0 [] (bounds 0 0) ∷ choiceFrame none (bounds 0 0) ∷ loopFrame loop23-1 (drop 2 records23) 2 (bounds 3 6 ∷ []) (bounds 2 2) ∷ loopFrame loop23-0 (drop 1 records23) 2 (bounds 17 27 ∷ []) (bounds 0 0) ∷ []) 29)
+    × (stateAfter 30 records23 zeroParameters ≡ state (drop 8 records23) (bounds 0 0) (loopFrame loop23-7 (drop 8 records23) 0 [] (bounds 0 0) ∷ choiceFrame (some (bounds 3 3)) (bounds 0 0) ∷ loopFrame loop23-1 (drop 2 records23) 2 (bounds 3 6 ∷ []) (bounds 2 2) ∷ loopFrame loop23-0 (drop 1 records23) 2 (bounds 17 27 ∷ []) (bounds 0 0) ∷ []) 30)
+    × (stateAfter 31 records23 zeroParameters ≡ state (drop 2 records23) (bounds 0 0) (loopFrame loop23-1 (drop 2 records23) 3 (bounds 6 9 ∷ []) (bounds 2 2) ∷ loopFrame loop23-0 (drop 1 records23) 2 (bounds 17 27 ∷ []) (bounds 0 0) ∷ []) 31)
+    × (stateAfter 32 records23 zeroParameters ≡ state (drop 4 records23) (bounds 0 0) (loopFrame loop23-3 (drop 4 records23) 0 [] (bounds 0 0) ∷ choiceFrame none (bounds 0 0) ∷ loopFrame loop23-1 (drop 2 records23) 3 (bounds 6 9 ∷ []) (bounds 2 2) ∷ loopFrame loop23-0 (drop 1 records23) 2 (bounds 17 27 ∷ []) (bounds 0 0) ∷ []) 32)
+    × (stateAfter 33 records23 zeroParameters ≡ state (drop 8 records23) (bounds 0 0) (loopFrame loop23-7 (drop 8 records23) 0 [] (bounds 0 0) ∷ choiceFrame (some (bounds 4 4)) (bounds 0 0) ∷ loopFrame loop23-1 (drop 2 records23) 3 (bounds 6 9 ∷ []) (bounds 2 2) ∷ loopFrame loop23-0 (drop 1 records23) 2 (bounds 17 27 ∷ []) (bounds 0 0) ∷ []) 33)
+    × (stateAfter 34 records23 zeroParameters ≡ state (drop 13 records23) (bounds 29 43) [] 33)
+    × (stateAfter 35 records23 zeroParameters ≡ state (drop 13 records23) (bounds 29 43) [] 33)
+unfolding computes
+states-23 = (refl, refl, refl, refl, refl, refl, refl, refl, refl, refl, refl, refl, refl, refl, refl, refl, refl, refl, refl, refl, refl, refl, refl, refl, refl, refl, refl, refl, refl, refl, refl, refl, refl, refl, refl, refl)
+
+-- 24. ranked, fewer trips than height + 1, in an arm of the sheet
+abbrev loop24-1 : Loop
+loop24-1 = loopOf 0 0 (pos 1) (form (pos 0) (pos 0 ∷ pos 0 ∷ pos 0 ∷ []) (pos 0 ∷ pos 0 ∷ pos 0 ∷ pos 0 ∷ [])) (form (pos 1) (pos 0 ∷ pos 0 ∷ pos 0 ∷ []) (pos 0 ∷ pos 0 ∷ pos 0 ∷ pos 0 ∷ []))
+
+abbrev loop24-3 : Loop
+loop24-3 = loopOf 0 0 (pos 1) (form (pos 0) (pos 0 ∷ pos 0 ∷ pos 0 ∷ []) (pos 0 ∷ pos 0 ∷ pos 0 ∷ pos 0 ∷ [])) (form (pos 0) (pos 1 ∷ pos 0 ∷ pos 0 ∷ []) (pos 0 ∷ pos 0 ∷ pos 0 ∷ pos 0 ∷ []))
+
+abbrev loop24-4 : Loop
+loop24-4 = loopOf 0 0 (pos 1) (form (pos 0) (pos 0 ∷ pos 0 ∷ pos 0 ∷ []) (pos 0 ∷ pos 0 ∷ pos 0 ∷ pos 0 ∷ [])) (form (pos 0) (pos 0 ∷ pos 1 ∷ pos 0 ∷ []) (pos 0 ∷ pos 0 ∷ pos 0 ∷ pos 0 ∷ []))
+
+abbrev records24 : List Record
+records24 = choiceRecord ∷ loopRecord loop24-1 ∷ choiceRecord ∷ loopRecord loop24-3 ∷ loopRecord loop24-4 ∷ workRecord 1 1 ∷ endRecord ∷ endRecord ∷ nextArmRecord ∷ workRecord 2 2 ∷ endRecord ∷ endRecord ∷ nextArmRecord ∷ workRecord 3 3 ∷ endRecord ∷ []
+
+pub states-24 :
+    (stateAfter 0 records24 zeroParameters ≡ state (drop 0 records24) (bounds 0 0) [] 0)
+    × (stateAfter 1 records24 zeroParameters ≡ state (drop 2 records24) (bounds 0 0) (loopFrame loop24-1 (drop 2 records24) 0 [] (bounds 0 0) ∷ choiceFrame none (bounds 0 0) ∷ []) 1)
+    × (stateAfter 2 records24 zeroParameters ≡ state (drop 4 records24) (bounds 0 0) (loopFrame loop24-3 (drop 4 records24) 0 [] (bounds 0 0) ∷ choiceFrame none (bounds 0 0) ∷ loopFrame loop24-1 (drop 2 records24) 0 [] (bounds 0 0) ∷ choiceFrame none (bounds 0 0) ∷ []) 2)
+    × (stateAfter 3 records24 zeroParameters ≡ state (drop 5 records24) (bounds 0 0) (loopFrame loop24-4 (drop 5 records24) 0 [] (bounds 0 0) ∷ loopFrame loop24-3 (drop 4 records24) 0 [] (bounds 0 0) ∷ choiceFrame none (bounds 0 0) ∷ loopFrame loop24-1 (drop 2 records24) 0 [] (bounds 0 0) ∷ choiceFrame none (bounds 0 0) ∷ []) 3)
+    × (stateAfter 4 records24 zeroParameters ≡ stateKeeping (keptArms ((bounds 1 1 ∷ bounds 2 2 ∷ []) ∷ []) []) (drop 2 records24) (bounds 0 0) (loopFrame loop24-1 (drop 2 records24) 1 (bounds 1 2 ∷ []) (bounds 0 0) ∷ choiceFrame none (bounds 0 0) ∷ []) 4)
+    × (stateAfter 5 records24 zeroParameters ≡ stateKeeping (keptArms ((bounds 1 1 ∷ bounds 2 2 ∷ []) ∷ []) []) (drop 4 records24) (bounds 0 0) (loopFrame loop24-3 (drop 4 records24) 0 [] (bounds 0 0) ∷ choiceFrame none (bounds 0 0) ∷ loopFrame loop24-1 (drop 2 records24) 1 (bounds 1 2 ∷ []) (bounds 0 0) ∷ choiceFrame none (bounds 0 0) ∷ []) 5)
+    × (stateAfter 6 records24 zeroParameters ≡ stateKeeping (keptArms ((bounds 1 1 ∷ bounds 2 2 ∷ []) ∷ []) []) (drop 5 records24) (bounds 0 0) (loopFrame loop24-4 (drop 5 records24) 0 [] (bounds 0 0) ∷ loopFrame loop24-3 (drop 4 records24) 0 [] (bounds 0 0) ∷ choiceFrame none (bounds 0 0) ∷ loopFrame loop24-1 (drop 2 records24) 1 (bounds 1 2 ∷ []) (bounds 0 0) ∷ choiceFrame none (bounds 0 0) ∷ []) 6)
+    × (stateAfter 7 records24 zeroParameters ≡ stateKeeping (keptArms ((bounds 1 1 ∷ bounds 2 2 ∷ []) ∷ []) []) (drop 4 records24) (bounds 0 0) (loopFrame loop24-3 (drop 4 records24) 1 (bounds 1 1 ∷ []) (bounds 0 0) ∷ choiceFrame none (bounds 0 0) ∷ loopFrame loop24-1 (drop 2 records24) 1 (bounds 1 2 ∷ []) (bounds 0 0) ∷ choiceFrame none (bounds 0 0) ∷ []) 7)
+    × (stateAfter 8 records24 zeroParameters ≡ stateKeeping (keptArms ((bounds 1 1 ∷ bounds 2 2 ∷ []) ∷ []) []) (drop 5 records24) (bounds 0 0) (loopFrame loop24-4 (drop 5 records24) 0 [] (bounds 0 0) ∷ loopFrame loop24-3 (drop 4 records24) 1 (bounds 1 1 ∷ []) (bounds 0 0) ∷ choiceFrame none (bounds 0 0) ∷ loopFrame loop24-1 (drop 2 records24) 1 (bounds 1 2 ∷ []) (bounds 0 0) ∷ choiceFrame none (bounds 0 0) ∷ []) 8)
+    × (stateAfter 9 records24 zeroParameters ≡ state (drop 15 records24) (bounds 3 5) [] 8)
+    × (stateAfter 10 records24 zeroParameters ≡ state (drop 15 records24) (bounds 3 5) [] 8)
+unfolding computes
+states-24 = (refl, refl, refl, refl, refl, refl, refl, refl, refl, refl, refl)
+
+-- 25. parameters, a negative factor, strides
+abbrev loop25-0 : Loop
+loop25-0 = loopOf 0 0 (pos 3) (form (pos 0) (pos 0 ∷ pos 0 ∷ pos 0 ∷ []) (pos 1 ∷ pos 0 ∷ pos 0 ∷ pos 0 ∷ [])) (form (pos 0) (pos 0 ∷ pos 0 ∷ pos 0 ∷ []) (pos 1 ∷ pos 0 ∷ pos 2 ∷ pos 0 ∷ []))
+
+abbrev loop25-2 : Loop
+loop25-2 = loopOf 2 0 (pos 2) (form (pos 1) (negsuc 0 ∷ pos 0 ∷ pos 0 ∷ []) (pos 0 ∷ pos 0 ∷ pos 0 ∷ pos 0 ∷ [])) (form (pos 20) (negsuc 0 ∷ pos 0 ∷ pos 0 ∷ []) (pos 0 ∷ negsuc 0 ∷ pos 0 ∷ pos 0 ∷ []))
+
+abbrev records25 : List Record
+records25 = loopRecord loop25-0 ∷ workRecord 1 2 ∷ loopRecord loop25-2 ∷ workRecord 5 6 ∷ endRecord ∷ endRecord ∷ []
+
+pub states-25 :
+    (stateAfter 0 records25 (negsuc 3 ∷ pos 7 ∷ pos 3 ∷ pos 0 ∷ []) ≡ state (drop 0 records25) (bounds 0 0) [] 0)
+    × (stateAfter 1 records25 (negsuc 3 ∷ pos 7 ∷ pos 3 ∷ pos 0 ∷ []) ≡ state (drop 1 records25) (bounds 0 0) (loopFrame loop25-0 (drop 1 records25) 0 [] (bounds 0 0) ∷ []) 1)
+    × (stateAfter 2 records25 (negsuc 3 ∷ pos 7 ∷ pos 3 ∷ pos 0 ∷ []) ≡ state (drop 3 records25) (bounds 0 0) (loopFrame loop25-2 (drop 3 records25) 0 [] (bounds 3 4) ∷ loopFrame loop25-0 (drop 1 records25) 0 [] (bounds 0 0) ∷ []) 2)
+    × (stateAfter 3 records25 (negsuc 3 ∷ pos 7 ∷ pos 3 ∷ pos 0 ∷ []) ≡ state (drop 1 records25) (bounds 0 0) (loopFrame loop25-0 (drop 1 records25) 1 (bounds 38 46 ∷ []) (bounds 0 0) ∷ []) 3)
+    × (stateAfter 4 records25 (negsuc 3 ∷ pos 7 ∷ pos 3 ∷ pos 0 ∷ []) ≡ state (drop 3 records25) (bounds 0 0) (loopFrame loop25-2 (drop 3 records25) 0 [] (bounds 3 4) ∷ loopFrame loop25-0 (drop 1 records25) 1 (bounds 38 46 ∷ []) (bounds 0 0) ∷ []) 4)
+    × (stateAfter 5 records25 (negsuc 3 ∷ pos 7 ∷ pos 3 ∷ pos 0 ∷ []) ≡ state (drop 6 records25) (bounds 114 138) [] 4)
+    × (stateAfter 6 records25 (negsuc 3 ∷ pos 7 ∷ pos 3 ∷ pos 0 ∷ []) ≡ state (drop 6 records25) (bounds 114 138) [] 4)
+unfolding computes
+states-25 = (refl, refl, refl, refl, refl, refl, refl)

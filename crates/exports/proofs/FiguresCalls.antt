@@ -10,9 +10,11 @@ use Rattle.meaning.specs.Limits.{areaLength}
 use Rattle.meaning.specs.Reader.{Result, ok, refused, require}
 use Rattle.meaning.specs.Answer.{answer, answerBy, Figures}
 use Rattle.meaning.specs.EarlierReaders.{shortRead, UnlessTooLong}
+use Rattle.meaning.specs.EarlierVisits.{earlierAnswer, OnlyVisitsFall}
 use Rattle.meaning.specs.CCall.{Called, areaBytes, storeAnswer, cCall}
 use Rattle.meaning.proofs.Answers.{answer-ok, call-number-zero, call-figures}
 use Rattle.meaning.proofs.LongerSheets.{answered-alike}
+use Rattle.meaning.proofs.FewerVisits.{answer-falls}
 use Rattle.loops.proofs.Sizes.{SmallParameters}
 use Rattle.figures.specs.Demand.{Answered}
 use Rattle.exports.specs.Demand.{Stored}
@@ -47,15 +49,16 @@ module _ (sheet : List ℕ) (ps : List ℤ) (budget : ℕ) (area : List ℕ) whe
       let s = fits f (h .2) d in
       subst (λ (x : Figures). Answered sheet ps (ok x)) (sym (call-figures sheet ps budget area f z (h .2) (s .0) (s .1) (s .2))) d
 
-  -- the promises of the C call: the number returned, the area after it, demand 3, and that sheets which were not too long are answered as before
+  -- the promises of the C call: the number returned, the area after it, demand 3, that sheets which were not too long are answered as before, and that
+  -- only the visits fall where loops are ranked
   abbrev pub Promised : ℕ → List ℕ → Type 0
   Promised number after = (number ≡ cCall sheet ps budget area .number) × ((after ≡ cCall sheet ps budget area .area) × (Stored sheet ps number after
-      × UnlessTooLong sheet (answer sheet ps budget ≡ answerBy shortRead sheet ps budget)))
+      × (UnlessTooLong sheet (answer sheet ps budget ≡ answerBy shortRead sheet ps budget) × OnlyVisitsFall (earlierAnswer sheet ps budget) (answer sheet ps budget))))
 
   promised : SmallParameters ps → (c : Called) → cCall sheet ps budget area ≡ c → Promised (c .number) (c .area)
   promised small c e =
       let demand = subst (λ (x : Called). Stored sheet ps (x .number) (x .area)) e (stored small) in
-      (sym (ap (λ (x : Called). x .number) e), (sym (ap (λ (x : Called). x .area) e), (demand, answered-alike sheet ps budget (answer sheet ps budget) refl)))
+      (sym (ap (λ (x : Called). x .number) e), (sym (ap (λ (x : Called). x .area) e), (demand, (answered-alike sheet ps budget (answer sheet ps budget) refl, answer-falls sheet ps budget))))
 
   -- refusal 9
   pub promised-short : SmallParameters ps → length area < areaLength → Promised 9 area

@@ -12,6 +12,7 @@ ghost use Rattle.meaning.specs.Converter.{addSkips, dropSkips, convert, withSki
 ghost use Rattle.meaning.specs.ConverterCall.{withSkipsCall, withoutSkipsCall};
 ghost use Rattle.meaning.specs.Moved.{SameSheet, Turned};
 ghost use Rattle.meaning.specs.EarlierReaders.{shortRead, UnlessTooLong};
+ghost use Rattle.meaning.specs.EarlierVisits.{earlierAnswer, OnlyVisitsFall};
 ghost use Rattle.meaning.specs.Program.{inputParameters, inputSheet, programText, programTextBy};
 ghost use Rattle.meaning.specs.Reader.{andThen, read};
 ghost use Rattle.meaning.specs.ReasonsTold.{ReasonsTold};
@@ -45,6 +46,8 @@ pub extern "C" fn pumdalin_figures(
     ensures demand3 { λ r. ⌜ Stored (now (sheet .entry)) (p1 ∷ p2 ∷ p3 ∷ p4 ∷ []) r (now (answer .exit)) ⌝ }
     ensures before { λ _. ⌜ UnlessTooLong (now (sheet .entry))
         (Library.answer (now (sheet .entry)) (p1 ∷ p2 ∷ p3 ∷ p4 ∷ []) budget ≡ Library.answerBy shortRead (now (sheet .entry)) (p1 ∷ p2 ∷ p3 ∷ p4 ∷ []) budget) ⌝ }
+    ensures fewer { λ _. ⌜ OnlyVisitsFall (earlierAnswer (now (sheet .entry)) (p1 ∷ p2 ∷ p3 ∷ p4 ∷ []) budget)
+        (Library.answer (now (sheet .entry)) (p1 ∷ p2 ∷ p3 ∷ p4 ∷ []) budget) ⌝ }
 {
     if answer.len() < AREA_LENGTH {
         return 9;

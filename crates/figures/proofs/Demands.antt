@@ -1,16 +1,18 @@
--- Demand 3, of every answer with figures, over the stages of the stage's own contract.
+-- Demand 3, of every answer with figures, over the stages of the stage's own contract; and that only the visits fall (C-18).
 use mathlib.Core.List.{List}
-use mathlib.Core.Path.{ap, sym, _∙_, _≡_}
+use mathlib.Core.Path.{ap, subst, sym, _∙_, _≡_}
 use Prim.Native.Nat.{suc, ℕ}
 use native.Mathlib.Omega.{arith}
 use lib.ListN.{length}
 use lib.IntN.{ℤ}
 use Rattle.meaning.specs.Demand.{Demand3, definedStages}
 use Rattle.meaning.specs.Answer.{Figures, answer}
+use Rattle.meaning.specs.EarlierVisits.{earlierAnswer, OnlyVisitsFall}
 use Rattle.meaning.specs.Record.{Record}
 use Rattle.meaning.specs.Reader.{Result, ok, refused}
 use Rattle.meaning.proofs.Answers.{accepted-within, answer-ok}
 use Rattle.meaning.proofs.Demands.{demand3}
+use Rattle.meaning.proofs.FewerVisits.{answer-falls}
 use Rattle.meaning.proofs.Logic.{ok-injective}
 use Rattle.loops.proofs.Sizes.{SmallParameters}
 use Rattle.state.specs.States.{StateParts, blankState}
@@ -58,3 +60,7 @@ module _ (sheet : List ℕ) (ps : List ℤ) where
   -- both promises of the library call, where what it returns is what the sums say
   pub promised : SmallParameters ps → (budget : ℕ) {r s : Result Figures} → r ≡ s → s ≡ answer sheet ps budget → (r ≡ answer sheet ps budget) × Answered sheet ps r
   promised small budget {r} same e = (same ∙ e, answer-demand small budget r (same ∙ e))
+
+  -- only the visits fall where loops are ranked
+  pub only-visits-fall : (budget : ℕ) {r : Result Figures} → r ≡ answer sheet ps budget → OnlyVisitsFall (earlierAnswer sheet ps budget) r
+  only-visits-fall budget e = subst (OnlyVisitsFall (earlierAnswer sheet ps budget)) (sym e) (answer-falls sheet ps budget)

@@ -4,6 +4,7 @@ mod repeat;
 ghost use mathlib.Core.Path.{_≡_};
 ghost use Rattle.meaning.specs.Answer.{answer, answerBy};
 ghost use Rattle.meaning.specs.EarlierReaders.{shortRead, UnlessTooLong};
+ghost use Rattle.meaning.specs.EarlierVisits.{earlierAnswer, OnlyVisitsFall};
 ghost use Rattle.figures.specs.Answers.{answerResult};
 ghost use Rattle.figures.specs.Demand.{Answered};
 use crate::repeat::figures_of;
@@ -39,6 +40,7 @@ pub fn cycles(sheet: &[u8], parameters: Parameters, budget: u32) -> Answer
     ensures answers { λ r. ⌜ answerResult r ≡ answer (now (sheet .entry)) parameters budget ⌝ }
     ensures demand3 { λ r. ⌜ Answered (now (sheet .entry)) parameters (answerResult r) ⌝ }
     ensures before { λ r. ⌜ UnlessTooLong (now (sheet .entry)) (answerResult r ≡ answerBy shortRead (now (sheet .entry)) parameters budget) ⌝ }
+    ensures fewer { λ r. ⌜ OnlyVisitsFall (earlierAnswer (now (sheet .entry)) parameters budget) (answerResult r) ⌝ }
 {
     if budget == 0 || MAX_BUDGET < budget {
         return Answer::Refused(Refusal {

@@ -1,16 +1,19 @@
 -- What was stored is read back: a record's row by its number, a loop's words, facts and limit by its number among the loops.
 use mathlib.Core.List.{_++_, List, [], _∷_}
 use mathlib.Core.Path.{ap, refl, _∙_, _≡_}
-use Prim.Native.Nat.{_*_, _/_, _%_, _<_, min, ℕ}
+use mathlib.Core.Bool.{Bool, false, not, true}
+use Prim.Native.Nat.{_+_, _*_, _/_, _%_, _<_, min, ℕ}
 use native.Mathlib.Nat.{mod-eq-of-lt}
 use native.Mathlib.Omega.{arith}
+use borrow.Author.Tests.{le-ltb, lt-ltb}
+use lib.Dec.{ltb}
 use lib.ListN.{getD, length}
 use lib.Seq.{paste}
 use lib.IntN.{ℤ}
 use Rattle.meaning.specs.Limits.{recordLimit, depthLimit, openLimit}
 use Rattle.layout.specs.declared.facts.Fact.{Fact}
 use Rattle.layout.specs.declared.rows.Row.{Row}
-use Rattle.layout.specs.Loops.{differenceFrom, differenceWidth, differenceWords, factFrom, factIn, factNumbers, factWidth, limitAt, loopLimit, wordIn}
+use Rattle.layout.specs.Loops.{differenceFrom, differenceWidth, differenceWords, factFrom, factIn, factNumbers, factWidth, limitAt, limitNumber, loopLimit, rankedAt, rankedMark, wordIn}
 use Rattle.layout.specs.Numbers.{joined, storedIn}
 use Rattle.layout.specs.Rows.{aroundRoom, roleRoom, endNumbers, depthNumbers, placeNumbers, numberIn, numberRoom, offsetRoom, rowFrom, rowNumbers, rowWidth}
 use Rattle.layout.proofs.Storing.{read-back, store-next, stored-at, stored-more}
@@ -101,10 +104,29 @@ module _ (before : List ℕ) (facts : List Fact) (n : ℕ) where
 
 -- ---- limits
 
+mark-ranked : (ranked : Bool) (limit : ℕ) → not (ltb (limitNumber ranked limit) rankedMark) ≡ ranked
+unfolding limitNumber
+mark-ranked true limit = ap not (le-ltb (limit % rankedMark + rankedMark) rankedMark (omega arith))
+mark-ranked false limit = ap not (lt-ltb (limit % rankedMark + 0) rankedMark (omega arith))
+
+mark-limit : (ranked : Bool) (limit : ℕ) → limit < rankedMark → limitNumber ranked limit % rankedMark ≡ limit
+unfolding limitNumber
+mark-limit true limit h = omega arith
+mark-limit false limit h = omega arith
+
 module _ (before limits : List ℕ) (n : ℕ) where
-  pub limit-number : n < length limits → n < loopLimit → limitAt (storedIn before limits) n ≡ getD limits n 0
-  unfolding limitAt
-  limit-number h below = ap (λ (m : ℕ). getD (storedIn before limits) m 0) (mod-eq-of-lt below) ∙ stored-at before limits n h
+  limit-stored : n < length limits → n < loopLimit → getD (storedIn before limits) (n % loopLimit) 0 ≡ getD limits n 0
+  limit-stored h below = ap (λ (m : ℕ). getD (storedIn before limits) m 0) (mod-eq-of-lt below) ∙ stored-at before limits n h
+
+  -- of the loop whose number was made from its limit and whether it is ranked, these are read back
+  module _ (ranked : Bool) (limit : ℕ) (h : n < length limits) (below : n < loopLimit) (e : getD limits n 0 ≡ limitNumber ranked limit) where
+    pub limit-number : limit < rankedMark → limitAt (storedIn before limits) n ≡ limit
+    unfolding limitAt
+    limit-number small = ap (λ (x : ℕ). x % rankedMark) (limit-stored h below ∙ e) ∙ mark-limit ranked limit small
+
+    pub ranked-number : rankedAt (storedIn before limits) n ≡ ranked
+    unfolding rankedAt
+    ranked-number = ap (λ (x : ℕ). not (ltb x rankedMark)) (limit-stored h below ∙ e) ∙ mark-ranked ranked limit
 
   pub limits-next : (limit : ℕ) → n ≡ length limits → n < loopLimit →
       paste (storedIn before limits) (n % loopLimit) (limit ∷ []) 1 ≡ storedIn before (limits ++ (limit ∷ []))

@@ -3,7 +3,7 @@ use mathlib.Core.List.{List, [], _∷_}
 use mathlib.Core.Bool.{Bool, cond, not}
 use Prim.Native.Nat.{ℕ, _+_, _*_, _/_, _%_, _^_}
 use lib.IntN.{ℤ, pos}
-use lib.Dec.{eqb}
+use lib.Dec.{eqb, ltb}
 use lib.ListN.{getD}
 use Rattle.whole.specs.Integer.{floorRemainder}
 use Rattle.meaning.specs.Limits.{recordLimit, indexFactors}
@@ -50,13 +50,13 @@ module _ (differences : List ℕ) (j : ℕ) where
 -- ---- facts
 
 abbrev pub factWidth : ℕ
-factWidth = 3
+factWidth = 4
 
 abbrev pub factsLength : ℕ
 factsLength = loopLimit * factWidth
 
 unfoldable pub factNumbers : Fact → List ℕ
-factNumbers f = f .ceiling ∷ f .choice ∷ cond (f .enough) 1 0 ∷ []
+factNumbers f = f .ceiling ∷ f .choice ∷ f .rank ∷ cond (f .enough) 1 0 ∷ []
 
 abbrev pub factFrom : ℕ → ℕ
 factFrom j = j % loopLimit * factWidth
@@ -72,12 +72,28 @@ module _ (facts : List ℕ) (j : ℕ) where
   abbrev pub choiceDepthAt : ℕ
   choiceDepthAt = factIn facts j 1
 
+  -- how many of them are kept from being ranked by the choices around it
+  abbrev pub rankDepthAt : ℕ
+  rankDepthAt = factIn facts j 2
+
   -- whether its smallest D is as large as closing a loop around it asks
   abbrev pub enoughAt : Bool
-  enoughAt = not (eqb (factIn facts j 2) 0)
+  enoughAt = not (eqb (factIn facts j 3) 0)
 
 -- ---- limits
 
--- how many trips the loop visits at most where it is closed; 0 where it is walked
-unfoldable pub limitAt : List ℕ → ℕ → ℕ
-limitAt limits j = getD limits (j % loopLimit) 0
+-- added to the limit of a ranked loop: above every limit, which is a loop's height + 1
+abbrev pub rankedMark : ℕ
+rankedMark = 8
+
+-- the number that is stored of a loop with this limit; what the remainder cuts off is the limit of no loop
+unfoldable pub limitNumber : Bool → ℕ → ℕ
+limitNumber ranked limit = limit % rankedMark + cond ranked rankedMark 0
+
+module _ (limits : List ℕ) (j : ℕ) where
+  -- how many trips the loop visits at most where the rest may be summed, it being closed or ranked; 0 where it is walked
+  unfoldable pub limitAt : ℕ
+  limitAt = getD limits (j % loopLimit) 0 % rankedMark
+
+  unfoldable pub rankedAt : Bool
+  rankedAt = not (ltb (getD limits (j % loopLimit) 0) rankedMark)

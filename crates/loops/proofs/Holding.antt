@@ -23,8 +23,9 @@ use Rattle.form.specs.Forms.{folded, pushOf, rangeWithin, valueAt, rangesBetwee
 use Rattle.form.proofs.FormLaws.{NumbersWithin, Plain, RangesWithin, push-folded, range-folded, ranges-set, value-folded}
 use Rattle.layout.specs.Loops.{differenceWords, wordOf}
 use Rattle.loops.specs.declared.forms.Around.{Around}
-use Rattle.loops.specs.Enclosing.{Enclosing, choiceDepth, enter, leave, nothingOpen, withoutLast}
-use Rattle.loops.specs.Reckoned.{aroundWith, ceilingWithin, enoughWithin, factWithin, loopWords, ownRow, pushWord, pushesWith, rowWith}
+use Rattle.loops.specs.declared.forms.Barred.{Barred}
+use Rattle.loops.specs.Enclosing.{Enclosing, enter, leave, nothingOpen, withoutLast}
+use Rattle.loops.specs.Reckoned.{aroundWith, barredBy, ceilingWithin, enoughWithin, factWithin, loopWords, ownRow, pushWord, pushesWith, rowWith}
 use Rattle.loops.specs.Facts.{factOf, loopFacts, wordsOf}
 use Rattle.loops.proofs.Enclosings.{OpenLoops}
 use Rattle.loops.proofs.Sizes.{SmallParameters, plain, plain-difference}
@@ -245,12 +246,12 @@ module _ (ps : List ℤ) (os : List Open) (e : Enclosing) (a : Around) (pushes :
     unfolding ceilingWithin loopFacts ceiling differenceRange
     ceiling-of-loop = ap (λ (r : Range). tripCount (r .hi) (strideSize l)) (range-held (difference l) plain-apart)
 
-    pub fact-of-loop : (choice : ℕ) → choice ≡ choiceDepth os →
-        factWithin (folded ps (difference l)) (strideSize l) (askedDifference l) choice a ≡ factOf (loopFacts ps os e l)
-    unfolding factWithin factOf enoughWithin loopFacts differenceRange
-    fact-of-loop choice c =
+    pub fact-of-loop : (barred : Barred) → barred ≡ barredBy os →
+        factWithin (folded ps (difference l)) (strideSize l) (askedDifference l) barred a ≡ factOf (loopFacts ps os e l)
+    unfolding factWithin factOf barredBy enoughWithin loopFacts differenceRange
+    fact-of-loop barred b =
         let d = range-held (difference l) plain-apart in
-        λ t. record { ceiling = ceiling-of-loop t; choice = c t; enough = leZ (askedDifference l) (d t .lo) }
+        λ t. record { ceiling = ceiling-of-loop t; choice = b t .choice; rank = b t .rank; enough = leZ (askedDifference l) (d t .lo) }
 
     abbrev pushesInside : List (List ℤ)
     pushesInside = map (pushInner l) (e .pushes) ++ (pushOwn l (length (e .ranges)) ∷ [])

@@ -11,7 +11,7 @@ use lib.Seq.{getD-at, split-at}
 use lib.IntN.{pos}
 use Rattle.meaning.specs.Limits.{indexFactors}
 use Rattle.layout.specs.declared.facts.Fact.{Fact}
-use Rattle.layout.specs.Loops.{baseAt, ceilingAt, choiceDepthAt, differenceWidth, differenceWords, enoughAt, factIn, factNumbers, factWidth, loopLimit, pushWordAt, strideAt, wordIn, wordOf}
+use Rattle.layout.specs.Loops.{baseAt, ceilingAt, choiceDepthAt, differenceWidth, differenceWords, enoughAt, factIn, factNumbers, factWidth, loopLimit, pushWordAt, rankDepthAt, strideAt, wordIn, wordOf}
 use Rattle.layout.proofs.Reading.{word-number, differences-width, fact-number}
 use Rattle.loops.specs.Facts.{LoopFacts, factOf, factsStored, loopsIn, wordsOf, wordsStored}
 use Rattle.loops.specs.Known.{LoopsHeld}
@@ -75,9 +75,13 @@ module _ {differences facts : List ℕ} (xs : List LoopFacts) (f : LoopFacts) (y
   unfolding factNumbers factOf
   choice-reads = fact-reads 1 (omega arith)
 
+  pub rank-reads : rankDepthAt facts (length xs) ≡ f .rankDepth
+  unfolding factNumbers factOf
+  rank-reads = fact-reads 2 (omega arith)
+
   pub enough-reads : enoughAt facts (length xs) ≡ f .enough
   unfolding factNumbers factOf
-  enough-reads = ap (λ (n : ℕ). not (eqb n 0)) (fact-reads 2 (omega arith)) ∙ go (f .enough)
+  enough-reads = ap (λ (n : ℕ). not (eqb n 0)) (fact-reads 3 (omega arith)) ∙ go (f .enough)
     where
       go : (b : Bool) → not (eqb (cond b 1 0) 0) ≡ b
       go true = refl

@@ -36,16 +36,17 @@ use Rattle.nest.proofs.RowWalk.{opens-next}
 use Rattle.nest.proofs.Walks.{opensThrough}
 use Rattle.nest.proofs.RowsOf.{rows-length}
 use Rattle.loops.specs.declared.forms.Around.{Around}
+use Rattle.loops.specs.declared.forms.Barred.{Barred}
 use Rattle.loops.specs.declared.forms.Forms.{Forms}
-use Rattle.loops.specs.Enclosing.{choiceDepth, Enclosing, enclosingAfter, enclosingThrough, enter, loopsAround}
+use Rattle.loops.specs.Enclosing.{Enclosing, enclosingAfter, enclosingThrough, enter, loopsAround}
 use Rattle.loops.specs.Forms.{FormsOf}
-use Rattle.loops.specs.Reckoned.{FourSmall, aroundWith, ceilingWithin, factWithin, loopWords, pushesWith}
+use Rattle.loops.specs.Reckoned.{FourSmall, aroundWith, barredBy, ceilingWithin, factWithin, loopWords, pushesWith}
 use Rattle.loops.specs.Facts.{LoopFacts, factOf, factsAt, factsStored, loopFacts, loopsIn, overCeiling, sheetFacts, wordsOf, wordsStored, withinCeiling}
 use Rattle.loops.proofs.Holding.{Holding, Small, ceiling-of-loop, fact-of-loop, holding-entered, holding-start, noNumbers, words-of-loop}
 use Rattle.loops.proofs.AtRecord.{fact-at, facts-count, loop-placed, loop-there, no-facts, number-is, offset-is, role-is, row-offset, source-is}
 use Rattle.loops.proofs.AtRecord.{holding-over, loops-step, open-loops-at, opens-step, small-at, small-open}
 use Rattle.loops.proofs.Sizes.{stride-moves}
-use Rattle.loops.proofs.Choices.{choiceDepth-small}
+use Rattle.loops.proofs.Choices.{choiceDepth-small, rank-closing}
 use Rattle.loops.proofs.LoopsRead.{loops-append-in, words-wide}
 use Rattle.layout.specs.declared.facts.Fact.{Fact}
 
@@ -249,8 +250,12 @@ module _ {sheet : List ℕ} {count : ℕ} {ps : List ℤ} {words₀ facts₀ wor
       pub depth-range : here .depth < depthLimit
       depth-range = omega (arith, depth-is, in-range .1)
 
-      pub choice-small : {choice : ℕ} → choice ≡ choiceDepth os → choice < 2 ^ 16
-      choice-small e = omega (arith, e, choiceDepth-small os, in-range .1)
+      pub barred-small : {barred : Barred} → barred ≡ barredBy os → (barred .choice < 2 ^ 16) × (barred .rank < 2 ^ 16)
+      unfolding barredBy
+      barred-small e =
+          let choice = choiceDepth-small os in
+          let rank = rank-closing os in
+          (omega (arith, ap (λ (b : Barred). b .choice) e, in-range .1), omega (arith, ap (λ (b : Barred). b .rank) e, in-range .1))
 
       small : Small ps es
       small = small-open (g .holding) (open-loops-at sheet ps n there) (g .shallow) ps four (small-at sheet ps n there four)
@@ -296,9 +301,9 @@ module _ {sheet : List ℕ} {count : ℕ} {ps : List ℤ} {words₀ facts₀ wor
             ap (λ (t : Bool). loopsIn (take n allFacts) ++ cond t [] (fact ∷ withinCeiling (drop (suc n) allFacts))) (sym test-is ∙ under)
             ∙ sym (append-assoc (loopsIn (take n allFacts)) (fact ∷ []) (withinCeiling (drop (suc n) allFacts)))
 
-        module _ {number choice : ℕ} (numberIs : number ≡ loopAt rows n) (choiceIs : choice ≡ choiceDepth os) {words2 facts2 : List ℕ}
+        module _ {number : ℕ} (numberIs : number ≡ loopAt rows n) {barred : Barred} (barredIs : barred ≡ barredBy os) {words2 facts2 : List ℕ}
             (wordsPut : words2 ≡ cond over words (paste words (differenceFrom number) (loopWords (wideForm (forms .difference)) (forms .size) (here .depth) (a .starts) pushes) differenceWidth))
-            (factsPut : facts2 ≡ cond over facts (paste facts (factFrom number) (factNumbers (factWithin (wideForm (forms .difference)) (forms .size) (forms .asked) choice a)) factWidth))
+            (factsPut : facts2 ≡ cond over facts (paste facts (factFrom number) (factNumbers (factWithin (wideForm (forms .difference)) (forms .size) (forms .asked) barred a)) factWidth))
           where
             pub surveying-over : over ≡ true → Answer rows words2 facts2 n
             unfolding orElse
@@ -339,10 +344,10 @@ module _ {sheet : List ℕ} {count : ℕ} {ps : List ℤ} {words₀ facts₀ wor
             facts-now : over ≡ false → facts2 ≡ storedIn facts₀ (factsStored (loopsIn (take (n + 1) allFacts)))
             unfolding factsStored
             facts-now under =
-                let known : Fact = factWithin (wideForm (forms .difference)) (forms .size) (forms .asked) choice a in
+                let known : Fact = factWithin (wideForm (forms .difference)) (forms .size) (forms .asked) barred a in
                 let is : known ≡ factOf fact =
-                (λ t. factWithin (forms-of .differenceIs t) (forms-of .sizeIs t) (forms-of .askedIs t) choice a)
-                ∙ fact-of-loop ps os es a pushes (g .holding) small (open-loops-at sheet ps n there) l (in-range .0) (in-range .1) choice choiceIs in
+                (λ t. factWithin (forms-of .differenceIs t) (forms-of .sizeIs t) (forms-of .askedIs t) barred a)
+                ∙ fact-of-loop ps os es a pushes (g .holding) small (open-loops-at sheet ps n there) l (in-range .0) (in-range .1) barred barredIs in
                 factsPut ∙ ap (λ (t : Bool). cond t facts (paste facts (factFrom number) (factNumbers known) factWidth)) under
                 ∙ ap (λ (w : List ℕ). paste w (factFrom number) (factNumbers known) factWidth) (g .factsSoFar)
                 ∙ facts-next facts₀ (map factOf stored) number (factOf fact) (factNumbers known) (place-is .0 ∙ sym (length-map stored factOf)) (place-is .1) (ap factNumbers is)

@@ -34,6 +34,14 @@ choiceDepth [] = zero
 choiceDepth (openLoop ∷ os) = choiceDepth os
 choiceDepth (openChoice ∷ os) = loopDepth os
 
+-- how many of these are kept from being ranked: the loop that the choice stands directly in is not
+unfoldable pub rankDepth : List Open → ℕ
+rankDepth [] = zero
+rankDepth (openLoop ∷ os) = rankDepth os
+rankDepth (openChoice ∷ []) = zero
+rankDepth (openChoice ∷ openLoop ∷ os) = loopDepth os
+rankDepth (openChoice ∷ openChoice ∷ os) = loopDepth os
+
 module _ (parameters : List ℤ) where
   -- inside loop l
   unfoldable pub enter : Loop → Enclosing → Enclosing

@@ -18,11 +18,11 @@ use Rattle.layout.specs.declared.facts.Fact.{Fact}
 use Rattle.layout.specs.Loops.{differenceWords, factNumbers}
 use Rattle.layout.specs.Numbers.{joined}
 use Rattle.nest.specs.Walk.{opensAfter}
-use Rattle.loops.specs.Enclosing.{Enclosing, nothingOpen, enclosingAfter, choiceDepth}
+use Rattle.loops.specs.Enclosing.{Enclosing, nothingOpen, enclosingAfter, choiceDepth, rankDepth}
 
 -- What closing and the stages ask of one loop: its stride's size, its ceiling, whether its smallest D is as large as closing a loop around it
--- asks, D where every counter is 0, the pushes on D of the loops around it, outermost first, and how many loops stand around it and around the
--- innermost choice around it.
+-- asks, D where every counter is 0, the pushes on D of the loops around it, outermost first, how many loops stand around it and around the
+-- innermost choice around it, and how many of these the choices around it keep from being ranked.
 pub record LoopFacts : Type 0 where
   pub stride : ℕ
   pub ceiling : ℕ
@@ -31,13 +31,14 @@ pub record LoopFacts : Type 0 where
   pub pushes : List ℤ
   pub depth : ℕ
   pub choiceDepth : ℕ
+  pub rankDepth : ℕ
 
 -- as they are stored
 unfoldable pub wordsOf : LoopFacts → List ℕ
 wordsOf f = differenceWords (f .stride) (f .base) (f .pushes)
 
 unfoldable pub factOf : LoopFacts → Fact
-factOf f = record { ceiling = f .ceiling; choice = f .choiceDepth; enough = f .enough }
+factOf f = record { ceiling = f .ceiling; choice = f .choiceDepth; rank = f .rankDepth; enough = f .enough }
 
 module _ (parameters : List ℤ) where
   unfoldable pub loopFacts : List Open → Enclosing → Loop → LoopFacts
@@ -49,6 +50,7 @@ module _ (parameters : List ℤ) where
     pushes = map (push (difference l)) (e .pushes);
     depth = loopDepth os;
     choiceDepth = choiceDepth os;
+    rankDepth = rankDepth os;
   }
 
   unfoldable pub factsAt : List Open → Enclosing → Record → Option LoopFacts

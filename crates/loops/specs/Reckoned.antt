@@ -9,12 +9,19 @@ use lib.Dec.{ltb}
 use lib.ListN.{length, getD, set, replicate}
 use Rattle.meaning.specs.Limits.{depthLimit, constantHalf, parameterFactors}
 use Rattle.meaning.specs.Form.{Form}
+use Rattle.meaning.specs.Record.{Open}
 use Rattle.meaning.specs.Time.{tripCount}
 use Rattle.meaning.specs.Range.{Range, rangeUp, rangeDown}
 use Rattle.form.specs.Forms.{rangeWithin, valueAt, pushOf}
 use Rattle.layout.specs.declared.facts.Fact.{Fact}
 use Rattle.layout.specs.Loops.{wordOf}
+use Rattle.loops.specs.Enclosing.{choiceDepth, rankDepth}
 use Rattle.loops.specs.declared.forms.Around.{Around}
+use Rattle.loops.specs.declared.forms.Barred.{Barred}
+
+-- how many of the loops around are barred by these open records
+unfoldable pub barredBy : List Open → Barred
+barredBy os = record { choice = choiceDepth os; rank = rankDepth os }
 
 -- of a loop with `depth` loops around it, the push of the loop with m loops around it, as a word; 0 where there is none
 unfoldable pub pushWord : Form → List (List ℤ) → ℕ → ℕ → ℕ
@@ -33,8 +40,9 @@ unfoldable pub enoughWithin : Form → ℤ → Around → Bool
 enoughWithin f asked a = leZ asked (rangeWithin f (a .lo) (a .hi) .lo)
 
 -- as they are stored
-unfoldable pub factWithin : Form → ℕ → ℤ → ℕ → Around → Fact
-factWithin f stride asked choice a = record { ceiling = ceilingWithin f stride a; choice = choice; enough = enoughWithin f asked a }
+unfoldable pub factWithin : Form → ℕ → ℤ → Barred → Around → Fact
+factWithin f stride asked barred a =
+    record { ceiling = ceilingWithin f stride a; choice = barred .choice; rank = barred .rank; enough = enoughWithin f asked a }
 
 -- a loop's pushes at its own depth
 unfoldable pub ownRow : ℤ → ℕ → List ℤ

@@ -2,7 +2,7 @@
 ghost use mathlib.Core.Path.{_≡_};
 ghost use mathlib.Core.List.{List};
 ghost use mathlib.Core.Bool.{not, cond};
-ghost use Prim.Native.Nat.{_<_};
+ghost use Prim.Native.Nat.{_-_, _/_, _%_, _<_};
 ghost use lib.Dec.{eqb};
 ghost use lib.ListN.{getD};
 ghost use Rattle.whole.specs.Integer as Z;
@@ -17,10 +17,9 @@ ghost use Rattle.form.specs.Forms.{wideForm, rangeOf};
 ghost use Rattle.form.specs.Packed.{formOf};
 ghost use Rattle.sheet.specs.Nestings.{nestingOf};
 ghost use Rattle.layout.specs.Loops.{wordOf};
-ghost use Rattle.loops.specs.Enclosing as S;
 ghost use Rattle.records.specs.View.{loopOf};
 ghost use Rattle.loops.specs.Forms.{FormsOf};
-ghost use Rattle.loops.specs.Reckoned.{pushWord, loopWords, ceilingWithin, enoughWithin, aroundWith, rowWith, pushesWith};
+ghost use Rattle.loops.specs.Reckoned.{barredBy, pushWord, loopWords, ceilingWithin, enoughWithin, aroundWith, rowWith, pushesWith};
 use encoding::number::byte_at;
 use form::Form;
 use form::MAX_DEPTH;
@@ -51,6 +50,12 @@ pub struct Forms {
     pub upper: Form,
     pub difference: Form,
     pub down: bool,
+}
+
+// How many of the loops around a loop the innermost choice around it keeps from being closed: those around the choice; and how many from being ranked.
+pub struct Barred {
+    pub choice: usize,
+    pub rank: usize,
 }
 
 // A loop's ceiling, and whether its smallest D is as large as closing asks.
@@ -92,20 +97,34 @@ fn smaller(a: i64, b: i64) -> i64
     if a <= b { a } else { b }
 }
 
-// How many loops stand around the innermost open choice; 0 where none is open.
-pub(crate) fn choice_depth(here: Nesting) -> usize
-    ensures { λ r. ⌜ ((os : List Open) → here ≡ nestingOf os → r ≡ S.choiceDepth os) ⌝ }
+// Of the `depth` loops around a choice, how many it keeps from being ranked: not the loop that it stands directly in. `loops` has the choice's digit lowest.
+fn rank_depth(depth: usize, loops: u64) -> usize
+    ensures { λ r. ⌜ r ≡ depth - loops / 2 % 2 ⌝ }
+{
+    let direct = (loops / 2 % 2) as usize;
+    if depth < direct {
+        return 0;
+    }
+    depth - direct
+}
+
+// How many of the open loops are barred by the innermost open choice; 0 where none is open.
+pub(crate) fn barred_by(here: Nesting) -> Barred
+    ensures { λ r. ⌜ ((os : List Open) → here ≡ nestingOf os → r ≡ barredBy os) ⌝ }
 {
     let mut depth = here.depth;
     let mut loops = here.loops;
     while loops % 2 == 1 {
         if depth == 0 {
-            return 0;
+            return Barred { choice: 0, rank: 0 };
         }
         depth -= 1;
         loops = loops / 2;
     }
-    depth
+    Barred {
+        choice: depth,
+        rank: rank_depth(depth, loops),
+    }
 }
 
 // Whether a loop has a skip that differs from its start.

@@ -19,9 +19,10 @@ ghost use Rattle.loops.specs.Facts.{withinCeiling, wordsStored, factsSto
 ghost use Rattle.loops.specs.Reckoned.{loopWords, ceilingWithin, factWithin, FourSmall};
 ghost use Rattle.nest.specs.Known.{RowsHeld};
 use crate::forms::Around;
+use crate::forms::Barred;
 use crate::forms::Forms;
 use crate::forms::around_with;
-use crate::forms::choice_depth;
+use crate::forms::barred_by;
 use crate::forms::forms_at;
 use crate::forms::loop_words;
 use crate::forms::pushes_with;
@@ -47,19 +48,19 @@ use sheet::nesting::Nesting;
 fn note_loop(
     forms: Forms,
     number: usize,
-    choice: usize,
+    barred: Barred,
     depth: usize,
     around: Around,
     pushes: [PerLoop; MAX_DEPTH],
     differences: &mut Differences,
     facts: &mut Facts,
 ) -> bool
-    requires { ⌜ (0 < forms .size) × (choice < 2 ^ 16) ⌝ }
+    requires { ⌜ (0 < forms .size) × ((barred .choice < 2 ^ 16) × (barred .rank < 2 ^ 16)) ⌝ }
     ensures over { λ r. ⌜ r ≡ ltb ceilingLimit (ceilingWithin (wideForm (forms .difference)) (forms .size) around) ⌝ }
     ensures differences { λ r. ⌜ now (differences .exit) ≡ cond r (now (differences .entry)) (paste (now (differences .entry)) (differenceFrom number)
         (loopWords (wideForm (forms .difference)) (forms .size) depth (around .starts) pushes) differenceWidth) ⌝ }
     ensures facts { λ r. ⌜ now (facts .exit) ≡ cond r (now (facts .entry)) (paste (now (facts .entry)) (factFrom number)
-        (factNumbers (factWithin (wideForm (forms .difference)) (forms .size) (forms .asked) choice around)) factWidth) ⌝ }
+        (factNumbers (factWithin (wideForm (forms .difference)) (forms .size) (forms .asked) barred around)) factWidth) ⌝ }
 {
     let difference = forms.difference;
     let found = reach(difference, forms.size, forms.asked, around);
@@ -71,7 +72,8 @@ fn note_loop(
     put_difference(differences, number, words);
     let fact = Fact {
         ceiling: found.ceiling as u16,
-        choice: choice as u16,
+        choice: barred.choice as u16,
+        rank: barred.rank as u16,
         enough: found.enough,
     };
     put_fact(facts, number, fact);
@@ -114,11 +116,11 @@ pub fn survey(
             continue;
         }
         let forms = forms_at(sheet, at, parameters);
-        let choice = choice_depth(here);
+        let barred = barred_by(here);
         if note_loop(
             forms,
             loop_at(rows, number),
-            choice,
+            barred,
             here.depth,
             around,
             pushes,

@@ -18,7 +18,7 @@ use Rattle.meaning.specs.Reader.{Result, ok, refused, require, andThen, 
 use Rattle.meaning.specs.Tree.{tree}
 use Rattle.meaning.specs.Visits.{visits}
 use Rattle.meaning.specs.Report.{firstOverCeiling}
-use Rattle.meaning.specs.Answer.{Figures, figures, sheetReports, checkCeilings, accepted, acceptedBy, figuresOf, checkVisits, answer, answerBy}
+use Rattle.meaning.specs.Answer.{Figures, figures, sheetReports, checkCeilings, accepted, acceptedBy, figuresOf, checkVisits, answer, answerBy, answerWith}
 use Rattle.meaning.specs.CCall.{areaBytes, storeAnswer, cCall, figuresIn}
 use Rattle.meaning.proofs.Logic.{refused-is-not-ok, andThen-ok, ok-injective, refused-number}
 use Rattle.meaning.proofs.Refusals.{read-refused}
@@ -64,7 +64,7 @@ module _ (sheet : List ℕ) (ps : List ℤ) where
 -- the answer depends on the sheet only by what the reader says of it
 pub answer-of-reading : (reader other : List ℕ → Result (List Record)) (sheet sheet′ : List ℕ) (ps : List ℤ) (budget : ℕ) → reader sheet ≡ other sheet′ →
     answerBy reader sheet ps budget ≡ answerBy other sheet′ ps budget
-unfolding answerBy acceptedBy
+unfolding answerWith acceptedBy
 answer-of-reading reader other sheet sheet′ ps budget e =
     ap (λ (r : Result (List Record)). require (leb 1 budget && leb budget budgetLimit) 7 0
     (andThen (andThen r λ rs. checkCeilings (firstOverCeiling (sheetReports ps rs)) rs) λ rs. checkVisits budget (figuresOf ps (tree rs)))) e
@@ -72,7 +72,7 @@ answer-of-reading reader other sheet sheet′ ps budget e =
 -- and is its refusal
 pub answer-unread : (reader : List ℕ → Result (List Record)) (sheet : List ℕ) (ps : List ℤ) (budget number place : ℕ) →
     (leb 1 budget && leb budget budgetLimit) ≡ true → reader sheet ≡ refused number place → answerBy reader sheet ps budget ≡ refused number place
-unfolding answerBy acceptedBy require andThen
+unfolding answerWith acceptedBy require andThen
 answer-unread reader sheet ps budget number place b e =
     λ t. require (b t) 7 0 (andThen (andThen (e t) λ rs. checkCeilings (firstOverCeiling (sheetReports ps rs)) rs) λ rs. checkVisits budget (figuresOf ps (tree rs)))
 
@@ -115,7 +115,7 @@ module _ (sheet : List ℕ) (ps : List ℤ) (budget : ℕ) where
 
   answer-by : {c : Bool} {r : Result (List Record)} → (leb 1 budget && leb budget budgetLimit) ≡ c → accepted sheet ps ≡ r →
       answer sheet ps budget ≡ require c 7 0 (andThen r λ rs. checkVisits budget (figuresOf ps (tree rs)))
-  unfolding answerBy
+  unfolding answerWith
   answer-by e f = λ t. require (e t) 7 0 (andThen (f t) λ rs. checkVisits budget (figuresOf ps (tree rs)))
 
   pub answer-out-of-range : BudgetOutOfRange budget → answer sheet ps budget ≡ refused 7 0

@@ -1,5 +1,5 @@
 -- What closing a loop asks of what is inside it, taken apart; and that all loops inside what may be closed are closed.
-use mathlib.Core.Path.{_≡_, refl, sym, ap₂, subst}
+use mathlib.Core.Path.{_≡_, refl, sym, ap, ap₂, subst}
 use mathlib.Core.List.{List, [], _∷_, _++_, map, map-append}
 use mathlib.Core.Bool.{Bool, true, false, cond, _&&_}
 use Prim.Native.Nat.{ℕ, zero, _+_}
@@ -14,7 +14,7 @@ use Rattle.meaning.specs.Tree.{Block, Arms, empty, work, loop, choice, l
 use Rattle.meaning.specs.Time.{difference}
 use Rattle.meaning.specs.Range.{Range, innerRanges, differenceRange}
 use Rattle.meaning.specs.Closed.{push, pushOwn, pushInner, strideDivides, askedDifference}
-use Rattle.meaning.specs.Closed.{closedClass, walkedClass, isClosed, closable, closed, loopClass}
+use Rattle.meaning.specs.Closed.{LoopClass, closedClass, rankedClass, walkedClass, isClosed, closable, closed, ranked, loopClass}
 use Rattle.meaning.specs.Report.{LoopReport, allClosed, loopReports, armsReports}
 use Rattle.meaning.proofs.Logic.{T-and, and-T}
 use Rattle.meaning.proofs.Reports.{allClosed-append}
@@ -75,17 +75,43 @@ module _ (ps : List ℤ) where
   unfolding loopClass
   class-closed l body ranges t = go (closed ps l body ranges) t
     where
-      go : (b : Bool) → T (isClosed (cond b closedClass walkedClass)) → T b
+      other : (b : Bool) → T (isClosed (cond b rankedClass walkedClass)) → ⊥
+      other true t = unfold isClosed in t
+      other false t = unfold isClosed in t
+
+      go : (b : Bool) → T (isClosed (cond b closedClass (cond (ranked ps l body ranges) rankedClass walkedClass))) → T b
       go true t = tt
-      go false t = unfold isClosed in absurd t
+      go false t = absurd (other (ranked ps l body ranges) t)
 
   pub closed-class : (l : Loop) (body : Block) (ranges : List Range) → T (closed ps l body ranges) → T (isClosed (loopClass ps l body ranges))
   unfolding loopClass
   closed-class l body ranges t = go (closed ps l body ranges) t
     where
-      go : (b : Bool) → T b → T (isClosed (cond b closedClass walkedClass))
+      go : (b : Bool) → T b → T (isClosed (cond b closedClass (cond (ranked ps l body ranges) rankedClass walkedClass)))
       go true t = unfold isClosed in tt
       go false t = absurd t
+
+  -- a walked loop is neither closed nor ranked
+  pub class-walked : (l : Loop) (body : Block) (ranges : List Range) → loopClass ps l body ranges ≡ walkedClass →
+      (closed ps l body ranges ≡ false) × (ranked ps l body ranges ≡ false)
+  unfolding loopClass
+  class-walked l body ranges e = go (closed ps l body ranges) (ranked ps l body ranges) e
+    where
+      number : LoopClass → ℕ
+      number closedClass = 0
+      number rankedClass = 1
+      number walkedClass = 2
+
+      go : (c r : Bool) → cond c closedClass (cond r rankedClass walkedClass) ≡ walkedClass → (c ≡ false) × (r ≡ false)
+      go true r e = absurd (let z = ap number e in omega arith)
+      go false true e = absurd (let z = ap number e in omega arith)
+      go false false e = (refl, refl)
+
+  -- and one that is neither is walked
+  pub walked-class : (l : Loop) (body : Block) (ranges : List Range) → closed ps l body ranges ≡ false → ranked ps l body ranges ≡ false →
+      loopClass ps l body ranges ≡ walkedClass
+  unfolding loopClass
+  walked-class l body ranges c r = λ i. cond (c i) closedClass (cond (r i) rankedClass walkedClass)
 
   -- ---- loops inside are closed
 

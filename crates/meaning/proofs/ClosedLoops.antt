@@ -26,16 +26,25 @@ use Rattle.meaning.specs.Time.{sumOver, tripCount, trips, innerIndexes, 
 use Rattle.meaning.specs.Range.{Range, range, indexRange, innerRanges, differenceRange}
 use Rattle.meaning.specs.Closed.{pushOwn, pushInner, strideDivides, askedDifference, closable, closed}
 use Rattle.meaning.specs.Report.{allClosed, loopReports}
-use Rattle.meaning.specs.ClosedSum.{closedSum}
+use Rattle.meaning.specs.ClosedSum.{leasts, mosts, closedSum, firstSums}
 use Rattle.meaning.proofs.Skips.{asked-stride, entry-asked}
 use Rattle.meaning.proofs.Sound.{Sound}
-use Rattle.meaning.proofs.Trips.{Inside, firstSums, tripTime}
+use Rattle.meaning.proofs.Trips.{Inside, tripTime}
 use Rattle.meaning.proofs.Ranges.{inside-length, value-inside, trips-inside}
 use Rattle.meaning.proofs.Pushes.{Follows, follows-fixed, follows-inside, value-follows, strideDivides-moves, indexesInside-trip, insideAt}
 use Rattle.meaning.proofs.Closable.{closable-loop, closable-choice, closable-closed}
 
+-- Newton's sum of n trips from the first ones is the sum, the least and the most
+pub record FiguresExact (n : ℕ) (first : List Bounds) (sum : Bounds) : Type 0 where
+  pub leastExact : newtonSum n (leasts first) ≡ pos (sum .least)
+  pub mostExact : newtonSum n (mosts first) ≡ pos (sum .most)
+
+pub exact-sum : (n : ℕ) (first : List Bounds) (sum : Bounds) → FiguresExact n first sum → closedSum n first ≡ sum
+unfolding closedSum
+exact-sum n first sum exact = λ i. bounds (atLeastZero (exact .leastExact i)) (atLeastZero (exact .mostExact i))
+
 -- the first min(n, degree + 1) values of a polynomial are all n of them, or so many that the differences of this order vanish
-all-visited-or-vanish : (n degree : ℕ) (polynomial : List ℤ → ℤ) → Degree _⊞_ degree polynomial →
+pub all-visited-or-vanish : (n degree : ℕ) (polynomial : List ℤ → ℤ) → Degree _⊞_ degree polynomial →
     (n ≤ min n (suc degree)) ⊎ DifferencesVanish (min n (suc degree)) (λ k. polynomial (pos k ∷ []))
 all-visited-or-vanish n degree polynomial bounded = by-order (decLe n (suc degree))
   where
@@ -51,7 +60,7 @@ module _ (ps : List ℤ) where
   mutual
     unfolding loops time
 
-    time-without-loops : (b : Block) (indexes : List ℤ) → loops b ≡ zero → time ps b indexes ≡ time ps b []
+    pub time-without-loops : (b : Block) (indexes : List ℤ) → loops b ≡ zero → time ps b indexes ≡ time ps b []
     time-without-loops empty indexes h = refl
     time-without-loops (work least most rest) indexes h = ap (λ (x : Bounds). bounds least most ⊕ x) (time-without-loops rest indexes h)
     time-without-loops (loop l body rest) indexes h = absurd (omega arith)
@@ -65,7 +74,7 @@ module _ (ps : List ℤ) where
   -- ---- the trips of a loop inside are affine in the counters
 
   -- the indexes inside one more loop follow its counter too
-  follows-loop : (l : Loop) (ranges : List Range) (pushes : List (List ℤ)) (indexesAt : List ℤ → List ℤ) → Follows indexesAt pushes (length ranges) →
+  pub follows-loop : (l : Loop) (ranges : List Range) (pushes : List (List ℤ)) (indexesAt : List ℤ → List ℤ) → Follows indexesAt pushes (length ranges) →
       Follows (insideAt ps l indexesAt) (pushOwn l (length ranges) ∷ map (pushInner l) pushes) (length (innerRanges ps l ranges))
   unfolding innerRanges
   follows-loop l ranges pushes indexesAt follows =
@@ -141,7 +150,7 @@ module _ (ps : List ℤ) where
   }
 
   -- an executed trip's amount, from the polynomial inside the loop
-  trip-agrees : {degree : ℕ} {amount : List ℤ → ℕ} (l : Loop) (ranges : List Range) (indexesAt : List ℤ → List ℤ)
+  pub trip-agrees : {degree : ℕ} {amount : List ℤ → ℕ} (l : Loop) (ranges : List Range) (indexesAt : List ℤ → List ℤ)
       (p : Polynomial degree (insideAt ps l indexesAt) (innerRanges ps l ranges) amount) (counters : List ℤ) → Inside (indexesAt counters) ranges →
       (trip : ℕ) → trip < trips ps l (indexesAt counters) → pos (amount (innerIndexes ps l (indexesAt counters) trip)) ≡ p .polynomial (pos trip ∷ counters)
   unfolding firstOf restOf
@@ -154,12 +163,12 @@ module _ (ps : List ℤ) where
   -- ---- one of the two figures, least or most, of what may be summed
 
   module _ (figure : Bounds → ℕ) (figure-⊕ : (a b : Bounds) → figure (a ⊕ b) ≡ figure a + figure b) (figure-exactly : (n : ℕ) → figure (exactly n) ≡ n) where
-    figure-sumOver : (n : ℕ) (f : ℕ → Bounds) → pos (figure (sumOver n f)) ≡ total n (λ k. pos (figure (f k)))
+    pub figure-sumOver : (n : ℕ) (f : ℕ → Bounds) → pos (figure (sumOver n f)) ≡ total n (λ k. pos (figure (f k)))
     unfolding sumOver total
     figure-sumOver zero f = ap pos (figure-exactly zero)
     figure-sumOver (suc n) f = ap pos (figure-⊕ (sumOver n f) (f n)) ∙ ap (λ (z : ℤ). z +ℤ pos (figure (f n))) (figure-sumOver n f)
 
-    figure-firstSums : (n : ℕ) (f : ℕ → Bounds) → map (λ b. pos (figure b)) (firstSums n f) ≡ values n (λ k. pos (figure (f k)))
+    pub figure-firstSums : (n : ℕ) (f : ℕ → Bounds) → map (λ b. pos (figure b)) (firstSums n f) ≡ values n (λ k. pos (figure (f k)))
     unfolding firstSums values
     figure-firstSums zero f = refl
     figure-firstSums (suc n) f =
@@ -263,15 +272,20 @@ module _ (ps : List ℤ) where
   -- ---- closed loops
 
   -- a closed loop's sum by Newton's differences over its visited trips is the sum trip by trip
+  pub closed-figures-exact : (l : Loop) (body : Block) (ranges : List Range) (indexes : List ℤ) → Sound body → Inside indexes ranges →
+      T (closed ps l body ranges) →
+      FiguresExact (trips ps l indexes) (firstSums (min (trips ps l indexes) (suc (height body))) (tripTime ps l body indexes))
+      (sumOver (trips ps l indexes) (tripTime ps l body indexes))
+  closed-figures-exact l body ranges indexes sound inside t = record {
+    leastExact = closed-figure-exact (λ b. b .least) (λ a b. refl) (λ n. refl) l body sound ranges indexes inside t;
+    mostExact = closed-figure-exact (λ b. b .most) (λ a b. refl) (λ n. refl) l body sound ranges indexes inside t;
+  }
+
   pub closed-sums-exact : (l : Loop) (body : Block) (ranges : List Range) (indexes : List ℤ) → Sound body → Inside indexes ranges →
       T (closed ps l body ranges) →
       closedSum (trips ps l indexes) (firstSums (min (trips ps l indexes) (suc (height body))) (tripTime ps l body indexes))
       ≡ sumOver (trips ps l indexes) (tripTime ps l body indexes)
-  unfolding closedSum
-  closed-sums-exact l body ranges indexes sound inside t =
-      let least = closed-figure-exact (λ b. b .least) (λ a b. refl) (λ n. refl) l body sound ranges indexes inside t in
-      let most = closed-figure-exact (λ b. b .most) (λ a b. refl) (λ n. refl) l body sound ranges indexes inside t in
-      λ i. bounds (atLeastZero (least i)) (atLeastZero (most i))
+  closed-sums-exact l body ranges indexes sound inside t = exact-sum _ _ _ (closed-figures-exact l body ranges indexes sound inside t)
 
   -- loops inside a closed loop are closed
   pub closed-inside : (l : Loop) (body : Block) (ranges : List Range) → T (closed ps l body ranges) → (at : ℕ) →

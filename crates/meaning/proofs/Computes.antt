@@ -13,15 +13,17 @@ use Rattle.meaning.specs.Tree.{onFirst, takeBody, takeArms, segments, fi
 use Rattle.meaning.specs.Time.{difference, entryCost, tripCount, sumOver, trips, indexAt, innerIndexes, time, armsTime}
 use Rattle.meaning.specs.Run.{TripsRun, Run, ArmRun}
 use Rattle.meaning.specs.Range.{scale, addRange, dotRange, rangeUp, rangeDown, range, indexRange, innerRanges, differenceRange, ceiling}
-use Rattle.meaning.specs.Closed.{push, pushOwn, pushInner, strideDivides, askedDifference, isClosed, closable, closed, loopClass}
-use Rattle.meaning.specs.Visits.{countOver, visitedOf, visitedTrips, visits, armsVisits}
+use Rattle.meaning.specs.Closed.{push, pushOwn, pushInner, strideDivides, askedDifference, isClosed, closable, closed, armsClosable, rankable, ranked, loopClass}
+use Rattle.meaning.specs.Settled.{bestAmong, someBest, choiceSettled, allSettled, armsSums, choicesSums, settled, summed, armsOf, armCount, choicesOf}
+use Rattle.meaning.specs.Visits.{countOver, visitsBy, armsVisitsBy, visitedTrips}
+use Rattle.meaning.specs.EarlierVisits.{earlierVisitedTrips, earlierFigures, earlierAnswer}
 use Rattle.meaning.specs.Reason.{firstFailing, choiceTests, armsChoiceTests, aroundWith, unevenTests, ownTests}
 use Rattle.meaning.specs.Reason.{loopTests, armsLoopTests, closingTests, reasonOf}
 use Rattle.meaning.specs.Report.{orElse, firstOverCeiling, allClosed, loopReports, armsReports}
-use Rattle.meaning.specs.ClosedSum.{closedSum, addAll, loopSum, addTrip}
-use Rattle.meaning.specs.Stage.{firstState, afterEnd, addArm, stateOf, visitBegun, andOn, indexesOf, rangesOf}
-use Rattle.meaning.specs.Stage.{enterLoop, endTrip, passRecord, pass, passFrom, stage, stages, visitsBegun}
-use Rattle.meaning.specs.Answer.{sheetReports, checkCeilings, figuresOf, checkVisits, acceptedBy, answerBy}
+use Rattle.meaning.specs.ClosedSum.{firstSums, closedSum, addAll, loopSum, addTrip}
+use Rattle.meaning.specs.Stage.{firstState, afterEnd, addArm, keepArm, tripsKept, stateOf, visitBegun, andOn, indexesOf, rangesOf}
+use Rattle.meaning.specs.Stage.{keepsArms, enterLoop, summing, further, tripsSum, nextSums, nextArms, armsLeft, endTrip, passRecord, pass, passFrom, stage, stages, visitsBegun}
+use Rattle.meaning.specs.Answer.{sheetReports, checkCeilings, figuresOf, checkVisits, acceptedBy, answerWith}
 use Rattle.meaning.specs.CCall.{areaBytes, storeAnswer, cCall, figuresIn}
 use Rattle.meaning.specs.Text.{text, lastDigit, digits, decimal}
 use Rattle.meaning.specs.ReasonLine.{unevenLineStart, reasonLine, reasonLines, numberAfter, numberAt, sameText, firstWithLine, readReason}
@@ -32,6 +34,7 @@ use Rattle.meaning.specs.TextCall.{fitText, textCall}
 use Rattle.meaning.proofs.Vocabulary.{hexDigit, hex, sheetReportsOf, stateAfter}
 use Rattle.whole.specs.Integer.{floorDivide}
 use Rattle.whole.specs.Newton.{choose, differences, newtonTerms, newtonSum}
+use Rattle.whole.specs.Ranking.{coefficients, newtonSeries, noneNegative, nonePositive, dominates, dominated}
 
 unfoldable pub computes : Unit {0}
 unfolding unsigned littleEndian decodeSigned encodeSigned hasPattern unsigned16 signed16 signed8 formAt formBytes isZero allZero factorsFit formInRange value
@@ -41,10 +44,12 @@ unfolding unsigned littleEndian decodeSigned encodeSigned hasPattern unsigned16 
     changeLoop skipsStart addSkips dropSkips recordsWithSkips recordsWithoutSkips convert withSkips withoutSkips convertCall withSkipsCall withoutSkipsCall
     onFirst takeBody takeArms segments firstSegment tree records armsRecords loops armsLoops height armsHeight difference strideSize countsDown entryCost
     tripCount sumOver trips indexAt innerIndexes time armsTime TripsRun Run ArmRun scale addRange dotRange rangeUp rangeDown range indexRange innerRanges differenceRange
-    ceiling push pushOwn pushInner strideDivides askedDifference isClosed closable closed loopClass countOver visitedOf visitedTrips visits armsVisits
+    ceiling push pushOwn pushInner strideDivides askedDifference isClosed closable closed armsClosable rankable ranked loopClass bestAmong someBest choiceSettled allSettled armsSums choicesSums
+    settled summed armsOf armCount choicesOf coefficients newtonSeries noneNegative nonePositive dominates dominated countOver visitsBy armsVisitsBy visitedTrips earlierVisitedTrips
     firstFailing choiceTests armsChoiceTests aroundWith unevenTests ownTests loopTests armsLoopTests closingTests reasonOf orElse firstOverCeiling allClosed
-    loopReports armsReports closedSum addAll loopSum addTrip firstState afterEnd addArm stateOf visitBegun andOn indexesOf rangesOf enterLoop endTrip
-    passRecord pass passFrom stage stages visitsBegun sheetReports checkCeilings figuresOf checkVisits acceptedBy answerBy areaBytes storeAnswer cCall figuresIn
+    loopReports armsReports firstSums closedSum addAll loopSum addTrip firstState afterEnd addArm keepArm tripsKept stateOf visitBegun andOn indexesOf rangesOf keepsArms enterLoop summing
+    further tripsSum nextSums nextArms armsLeft endTrip
+    passRecord pass passFrom stage stages visitsBegun sheetReports checkCeilings figuresOf checkVisits acceptedBy answerWith earlierFigures earlierAnswer areaBytes storeAnswer cCall figuresIn
     text lastDigit digits decimal unevenLineStart reasonLine reasonLines numberAfter numberAt sameText firstWithLine readReason figuresLine className
     loopLine reportLines loopLines refusedLine answerText inputParameters inputBudget inputSheet reportsOf programTextBy storeLent fitText textCall lentIn
     hexDigit hex sheetReportsOf stateAfter floorDivide choose differences newtonTerms newtonSum

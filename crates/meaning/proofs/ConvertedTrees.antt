@@ -1,8 +1,8 @@
 -- The tree of a converted sheet is the old tree with its loops changed: its time, its visits, its ranges and what is closed are the same.
 use mathlib.Core.Path.{_≡_, refl, sym, ap, _∙_}
 use mathlib.Core.List.{List, [], _∷_, _++_, map, map-append}
-use mathlib.Core.Bool.{cond, _&&_}
-use Prim.Native.Nat.{zero, suc, _+_, max}
+use mathlib.Core.Bool.{cond, not, _&&_, _||_}
+use Prim.Native.Nat.{ℕ, zero, suc, _+_, min, max}
 use lib.IntN.{ℤ}
 use lib.Signed.{leZ}
 use lib.Dec.{eqb}
@@ -12,8 +12,10 @@ use Rattle.meaning.specs.Tree.{Block, Arms, empty, work, loop, choice, l
 use Rattle.meaning.specs.Time.{difference, entryCost, bounds, exactly, _⊕_, hull, sumOver}
 use Rattle.meaning.specs.Time.{trips, indexAt, innerIndexes, time, armsTime}
 use Rattle.meaning.specs.Range.{Range, indexRange, innerRanges, differenceRange, ceiling}
-use Rattle.meaning.specs.Closed.{pushOwn, pushInner, closedClass, walkedClass, closable, closed, loopClass}
-use Rattle.meaning.specs.Visits.{countOver, visitedOf, visitedTrips, visits, armsVisits}
+use Rattle.meaning.specs.Closed.{pushOwn, pushInner, closedClass, rankedClass, walkedClass, closable, closed, armsClosable, rankable, ranked, loopClass}
+use Rattle.meaning.specs.ClosedSum.{firstSums}
+use Rattle.meaning.specs.Settled.{allSettled, armsSums, choicesSums, settled, summed}
+use Rattle.meaning.specs.Visits.{countOver, visitedTrips, visits, visitsBy, armsVisits}
 use Rattle.meaning.specs.Answer.{figures, figuresOf}
 use Rattle.meaning.specs.Converter.{withSkip, changeLoop}
 use Rattle.meaning.proofs.Accepted.{WellFormed, in-place-formed}
@@ -137,19 +139,64 @@ module _ (ps : List ℤ) {change : Loop → Loop} (same : (l : Loop) → SameLoo
       && closable-changed rest ranges pushes t
   closable-changed (choice arms rest) ranges pushes = λ t. eqb (arms-loops-changed change arms t) zero && closable-changed rest ranges pushes t
 
+  arms-closable-changed : (arms : Arms) (ranges : List Range) (pushes : List (List ℤ)) →
+      armsClosable ps (changeArms change arms) ranges pushes ≡ armsClosable ps arms ranges pushes
+  unfolding armsClosable changeBlock
+  arms-closable-changed (lastArm b) ranges pushes = closable-changed b ranges pushes
+  arms-closable-changed (arm b arms) ranges pushes = λ t. closable-changed b ranges pushes t && arms-closable-changed arms ranges pushes t
+
+  rankable-changed : (b : Block) (ranges : List Range) (pushes : List (List ℤ)) →
+      rankable ps (changeBlock change b) ranges pushes ≡ rankable ps b ranges pushes
+  unfolding rankable changeBlock
+  rankable-changed empty ranges pushes = refl
+  rankable-changed (work least most rest) ranges pushes = rankable-changed rest ranges pushes
+  rankable-changed (loop l body rest) ranges pushes = λ t. closable-changed (loop l body empty) ranges pushes t && rankable-changed rest ranges pushes t
+  rankable-changed (choice arms rest) ranges pushes = λ t. arms-closable-changed arms ranges pushes t && rankable-changed rest ranges pushes t
+
+  closed-changed : (l : Loop) (body : Block) (ranges : List Range) → closed ps (change l) (changeBlock change body) ranges ≡ closed ps l body ranges
+  unfolding closed pushOwn withSkip
+  closed-changed l body ranges = λ t. closable-changed body (ranges-changed l ranges t) (pushOwn (both l t) (length ranges) ∷ []) t
+
+  ranked-changed : (l : Loop) (body : Block) (ranges : List Range) → ranked ps (change l) (changeBlock change body) ranges ≡ ranked ps l body ranges
+  unfolding ranked pushOwn withSkip
+  ranked-changed l body ranges =
+      λ t. not (closed-changed l body ranges t) && rankable-changed body (ranges-changed l ranges t) (pushOwn (both l t) (length ranges) ∷ []) t
+
   pub class-changed : (l : Loop) (body : Block) (ranges : List Range) → loopClass ps (change l) (changeBlock change body) ranges ≡ loopClass ps l body ranges
-  unfolding loopClass closed pushOwn withSkip
-  class-changed l body ranges =
-      λ t. cond (closable-changed body (ranges-changed l ranges t) (pushOwn (both l t) (length ranges) ∷ []) t) closedClass walkedClass
+  unfolding loopClass
+  class-changed l body ranges = λ t. cond (closed-changed l body ranges t) closedClass (cond (ranked-changed l body ranges t) rankedClass walkedClass)
+
+  -- the arms of its choices take what they took
+  arms-sums-changed : (arms : Arms) (count : ℕ) (indexesAt : ℕ → List ℤ) → armsSums ps count indexesAt (changeArms change arms) ≡ armsSums ps count indexesAt arms
+  unfolding armsSums changeBlock
+  arms-sums-changed (lastArm b) count indexesAt = λ t. firstSums count (λ trip. time-changed b (indexesAt trip) t) ∷ []
+  arms-sums-changed (arm b arms) count indexesAt = λ t. firstSums count (λ trip. time-changed b (indexesAt trip) t) ∷ arms-sums-changed arms count indexesAt t
+
+  choices-sums-changed : (b : Block) (count : ℕ) (indexesAt : ℕ → List ℤ) → choicesSums ps count indexesAt (changeBlock change b) ≡ choicesSums ps count indexesAt b
+  unfolding choicesSums changeBlock
+  choices-sums-changed empty count indexesAt = refl
+  choices-sums-changed (work least most rest) count indexesAt = choices-sums-changed rest count indexesAt
+  choices-sums-changed (loop l body rest) count indexesAt = choices-sums-changed rest count indexesAt
+  choices-sums-changed (choice arms rest) count indexesAt = λ t. arms-sums-changed arms count indexesAt t ∷ choices-sums-changed rest count indexesAt t
+
+  visited-changed : (l : Loop) (body : Block) (ranges : List Range) (indexes : List ℤ) (n : ℕ) →
+      visitedTrips ps (change l) (changeBlock change body) ranges indexes n ≡ visitedTrips ps l body ranges indexes n
+  unfolding visitedTrips summed settled innerIndexes indexAt withSkip
+  visited-changed l body ranges indexes n =
+      λ t. cond (closed-changed l body ranges t
+      || (ranked-changed l body ranges t
+      && allSettled (choices-sums-changed body (min n (suc (height-changed change body t))) (innerIndexes ps (both l t) indexes) t)))
+      (min n (suc (height-changed change body t))) n
 
   mutual
-    unfolding visits changeBlock visitedTrips innerIndexes indexAt withSkip
+    unfolding visitsBy changeBlock innerIndexes indexAt withSkip
 
     pub visits-changed : (b : Block) (ranges : List Range) (indexes : List ℤ) → visits ps (changeBlock change b) ranges indexes ≡ visits ps b ranges indexes
     visits-changed empty ranges indexes = refl
     visits-changed (work least most rest) ranges indexes = visits-changed rest ranges indexes
     visits-changed (loop l body rest) ranges indexes =
-        λ t. countOver (visitedOf (class-changed l body ranges t) (height-changed change body t) (trips-changed l indexes t))
+        λ t. countOver ((ap (visitedTrips ps (change l) (changeBlock change body) ranges indexes) (trips-changed l indexes)
+        ∙ visited-changed l body ranges indexes (trips ps l indexes)) t)
         (λ trip. suc (visits-changed body (ranges-changed l ranges t) (innerIndexes ps (both l t) indexes trip) t))
         + visits-changed rest ranges indexes t
     visits-changed (choice arms rest) ranges indexes = λ t. arms-visits-changed arms ranges indexes t + visits-changed rest ranges indexes t

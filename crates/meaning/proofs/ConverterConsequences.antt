@@ -68,7 +68,7 @@ module _ {old new : List ℕ} (same : SameSheet old new) (ps : List ℤ) where
   pub reports-kept : length newReports ≡ length oldReports
   reports-kept = ap (λ (rs : List LoopReport). length rs) (same .sameReports ps) ∙ length-map oldReports (movedReport place)
 
-  -- what is said of a loop in its new place: closed or walked as it was, with the same ceiling, and walked for the same reason
+  -- what is said of a loop in its new place: of the same class, with the same ceiling, and not closed for the same reason
   pub record SaidAgain (before : List LoopReport) (r : LoopReport) : Type 0 where
     pub newBefore : List LoopReport
     pub report : LoopReport

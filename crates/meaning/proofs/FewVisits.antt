@@ -10,12 +10,14 @@ use Rattle.meaning.specs.Record.{workRecord, loopRecord, endRecord, choi
 use Rattle.meaning.specs.Tree.{Block, Arms, empty, work, loop, choice, lastArm, arm, records, armsRecords, loops, armsLoops, height, armsHeight}
 use Rattle.meaning.specs.Time.{trips, innerIndexes}
 use Rattle.meaning.specs.Range.{Range, innerRanges}
-use Rattle.meaning.specs.Closed.{LoopClass, closedClass, walkedClass, isClosed, loopClass}
-use Rattle.meaning.specs.Visits.{visitedOf, visitedTrips, visits, armsVisits}
+use Rattle.meaning.specs.Closed.{isClosed, loopClass}
+use Rattle.meaning.specs.Visits.{visitedTrips, visits, visitsBy, armsVisits}
 use Rattle.meaning.specs.Report.{loopReports, armsReports, allClosed}
 use Rattle.meaning.proofs.Logic.{T-and}
+use Rattle.meaning.proofs.Closable.{class-closed}
 use Rattle.meaning.proofs.Reports.{allClosed-append}
 use Rattle.meaning.proofs.Trips.{tripVisits, count-over-bound}
+use Rattle.meaning.proofs.VisitedTrips.{closed-visited}
 
 unfoldable pub factorial : ℕ → ℕ
 factorial zero = 1
@@ -26,11 +28,6 @@ unfolding factorial
 factorial-positive zero = omega arith
 factorial-positive (suc n) = mul-pos {m = suc n} (omega arith) (factorial-positive n)
 
-visited-at-most : (class : LoopClass) → T (isClosed class) → (n h : ℕ) → visitedOf class h n ≤ suc h
-unfolding visitedOf isClosed
-visited-at-most closedClass t n h = omega arith
-visited-at-most walkedClass t n h = absurd t
-
 -- n trips, at most d, with f visits for each of the inner loops and one of their own: d * f for each of these loops and the outer one
 trips-visits-bound : (n d f inner : ℕ) → 1 ≤ f → n ≤ d → n * suc (f * inner) ≤ d * f * suc inner
 trips-visits-bound n d f inner p q =
@@ -39,7 +36,7 @@ trips-visits-bound n d f inner p q =
 
 module _ (ps : List ℤ) where
   mutual
-    unfolding visits loopReports height loops allClosed visitedTrips factorial
+    unfolding visitsBy loopReports height loops allClosed factorial
 
     pub few-visits : (b : Block) (ranges : List Range) (indexes : List ℤ) (at d : ℕ) →
         T (allClosed (loopReports ps b ranges at)) → height b ≤ d → visits ps b ranges indexes ≤ factorial d * loops b
@@ -54,8 +51,8 @@ module _ (ps : List ℤ) where
         let p = T-and (isClosed (loopClass ps l body ranges)) (allClosed (inside ++ behind)) c in
         let q = allClosed-append inside behind .0 (p .1) in
         let j = few-visits rest ranges indexes afterEnd (suc d) (q .1) (omega arith) in
-        let n = visitedTrips ps l body ranges (trips ps l indexes) in
-        let m : n ≤ suc d = le-trans (visited-at-most (loopClass ps l body ranges) (p .0) (trips ps l indexes) (height body)) (omega arith) in
+        let n = visitedTrips ps l body ranges indexes (trips ps l indexes) in
+        let m : n ≤ suc d = omega (arith, closed-visited ps l body ranges indexes (trips ps l indexes) (class-closed ps l body ranges (p .0))) in
         omega (
           arith,
           count-over-bound n (tripVisits ps l body ranges indexes) (suc (factorial d * loops body)) (λ trip less.

@@ -5,7 +5,7 @@ use lib.IntN.{pos}
 use Rattle.meaning.specs.Reader.{ok}
 use Rattle.meaning.specs.Reason.{holdsLoop, tooFewTrips, unevenIn}
 use Rattle.meaning.specs.Answer.{figures, answer}
-use Rattle.meaning.proofs.Vocabulary.{hex, zeroParameters, closedLoop, walkedLoop, sheetReportsOf}
+use Rattle.meaning.proofs.Vocabulary.{hex, zeroParameters, closedLoop, rankedLoop, walkedLoop, sheetReportsOf}
 use Rattle.meaning.proofs.Computes.{computes}
 
 pub known-sheets :
@@ -38,7 +38,7 @@ pub known-sheets :
     × (sheetReportsOf (hex "020000000001000100000000000000000000000000010000000200000000010000000100000000000000000000000100000001010001000303") zeroParameters ≡ (closedLoop 0 0 ∷ closedLoop 25 0 ∷ []))
     -- i 0 to 9 over a choice of (j 0 to i - 1) and work 4 to 4
     × (answer (hex "020000000001000000000000000000000900000000000000000402000000000100000000000000000000ffff010000000000000101000100030501040004000303") zeroParameters 100 ≡ ok (figures 30 55 19))
-    × (sheetReportsOf (hex "020000000001000000000000000000000900000000000000000402000000000100000000000000000000ffff010000000000000101000100030501040004000303") zeroParameters ≡ (walkedLoop 0 10 (holdsLoop 25) ∷ closedLoop 26 9 ∷ []))
+    × (sheetReportsOf (hex "020000000001000000000000000000000900000000000000000402000000000100000000000000000000ffff010000000000000101000100030501040004000303") zeroParameters ≡ (rankedLoop 0 10 (holdsLoop 25) ∷ closedLoop 26 9 ∷ []))
     -- i 0 to -1 by 3
     × (answer (hex "02000000000300000000000000000000ffff00000000000000010100010003") zeroParameters 100 ≡ ok (figures 0 0 0))
     × (sheetReportsOf (hex "02000000000300000000000000000000ffff00000000000000010100010003") zeroParameters ≡ (closedLoop 0 0 ∷ []))

@@ -3,6 +3,7 @@ pub mod Strides
 pub mod Skips
 pub mod Sound
 pub mod Trips
+pub mod SumsOfBounds
 pub mod Number
 pub mod RecordBytes
 pub mod Accepted
@@ -22,12 +23,22 @@ pub mod Pushes
 pub mod Closable
 pub mod Closes
 pub mod ClosedLoops
+pub mod RankedLoops
+pub mod Rankable
+pub mod RankedArms
+pub mod KeptTrips
+pub mod VisitedTrips
+pub mod TripEnds
+pub mod RankedConstant
+pub mod RankedLead
+pub mod RankedSizes
 pub mod Trees
 pub mod ConvertedTrees
 pub mod NewOffsets
 pub mod ConvertedReasons
 pub mod ConvertedReports
 pub mod Passes
+pub mod Levels
 pub mod AddingUp
 pub mod Stages
 pub mod Reports
@@ -38,6 +49,7 @@ pub mod UpwardForms
 pub mod UpwardLoops
 pub mod UpwardTrees
 pub mod UpwardReasons
+pub mod UpwardClosable
 pub mod UpwardReports
 pub mod FailingTests
 pub mod TestOrder
@@ -47,6 +59,8 @@ pub mod ReasonConsequences
 pub mod FewVisits
 pub mod SmallFigures
 pub mod Answers
+pub mod FewerVisits
+pub mod FewerVisitsConsequences
 pub mod ConvertedAnswers
 pub mod Lents
 pub mod TextCalls

@@ -8,7 +8,7 @@ use lib.IntN.{ℤ}
 use lib.ListN.{length}
 use Rattle.meaning.specs.Record.{Loop, Record, workRecord, loopRecord, endRecord, choiceRecord, nextArmRecord}
 use Rattle.meaning.specs.Time.{Bounds}
-use Rattle.meaning.specs.Stage.{Frame, loopFrame, choiceFrame, State, state, afterEnd, Step, going, beginsVisit, atEnd, stuck}
+use Rattle.meaning.specs.Stage.{Frame, loopFrame, choiceFrame, KeptArms, State, stateKeeping, afterEnd, Step, going, beginsVisit, atEnd, stuck}
 use Rattle.meaning.specs.Stage.{stateOf, visitBegun, andOn, enterLoop, endTrip, passRecord, pass, passFrom, stage}
 
 -- What one pass from a state comes to. Going on leaves fewer records to pass; beginning a visit adds 1 to the visits, which nothing else does, and
@@ -30,35 +30,35 @@ afterEnd-shortens inside (choiceRecord ∷ rs) = omega (arith, afterEnd-shortens
 afterEnd-shortens inside (nextArmRecord ∷ rs) = omega (arith, afterEnd-shortens inside rs)
 
 module _ (ps : List ℤ) where
-  enterLoop-does : (n : ℕ) (l : Loop) (rs : List Record) (c : Bounds) (fs : List Frame) (v : ℕ) →
-      PassDoes (state (loopRecord l ∷ rs) c fs v) (enterLoop ps n l rs c fs v)
+  enterLoop-does : (n : ℕ) (l : Loop) (rs : List Record) (c : Bounds) (fs : List Frame) (a : KeptArms) (v : ℕ) →
+      PassDoes (stateKeeping a (loopRecord l ∷ rs) c fs v) (enterLoop ps n l rs c fs a v)
   unfolding PassDoes enterLoop
-  enterLoop-does zero l rs c fs v = (refl, omega (arith, afterEnd-shortens zero rs))
-  enterLoop-does (suc n) l rs c fs v = (refl, omega arith)
+  enterLoop-does zero l rs c fs a v = (refl, omega (arith, afterEnd-shortens zero rs))
+  enterLoop-does (suc n) l rs c fs a v = (refl, omega arith)
 
-  endTrip-does : (more : Bool) (sum : Bounds) (l : Loop) (body : List Record) (k : ℕ) (sums : List Bounds) (c enclosing : Bounds) (rs : List Record)
-      (f : Frame) (fs : List Frame) (v : ℕ) →
-      PassDoes (state (endRecord ∷ rs) c (f ∷ fs) v) (endTrip ps more sum l body k sums enclosing rs fs v)
+  endTrip-does : (more : Bool) (s next left : State) → (next .visits ≡ suc (s .visits)) × (1 ≤ length (next .frames)) →
+      (left .visits ≡ s .visits) × (length (left .remaining) < length (s .remaining)) → PassDoes s (endTrip more next left)
   unfolding PassDoes endTrip
-  endTrip-does true sum l body k sums c enclosing rs f fs v = (refl, omega arith)
-  endTrip-does false sum l body k sums c enclosing rs f fs v = (refl, omega arith)
+  endTrip-does true s next left begun onward = begun
+  endTrip-does false s next left begun onward = onward
 
-  passRecord-does : (rs : List Record) (c : Bounds) (fs : List Frame) (v : ℕ) → PassDoes (state rs c fs v) (passRecord ps rs c fs v)
+  passRecord-does : (rs : List Record) (c : Bounds) (fs : List Frame) (a : KeptArms) (v : ℕ) → PassDoes (stateKeeping a rs c fs v) (passRecord ps rs c fs a v)
   unfolding PassDoes passRecord
-  passRecord-does [] c fs v = (refl, refl)
-  passRecord-does (workRecord least most ∷ rs) c fs v = (refl, omega arith)
-  passRecord-does (loopRecord l ∷ rs) c fs v = enterLoop-does _ l rs c fs v
-  passRecord-does (choiceRecord ∷ rs) c fs v = (refl, omega arith)
-  passRecord-does (nextArmRecord ∷ rs) c [] v = refl
-  passRecord-does (nextArmRecord ∷ rs) c (loopFrame l body k sums enclosing ∷ fs) v = refl
-  passRecord-does (nextArmRecord ∷ rs) c (choiceFrame passedArms enclosing ∷ fs) v = (refl, omega arith)
-  passRecord-does (endRecord ∷ rs) c [] v = refl
-  passRecord-does (endRecord ∷ rs) c (choiceFrame passedArms enclosing ∷ fs) v = (refl, omega arith)
-  passRecord-does (endRecord ∷ rs) c (loopFrame l body k sums enclosing ∷ fs) v = endTrip-does _ _ l body k _ c enclosing rs _ fs v
+  passRecord-does [] c fs a v = (refl, refl)
+  passRecord-does (workRecord least most ∷ rs) c fs a v = (refl, omega arith)
+  passRecord-does (loopRecord l ∷ rs) c fs a v = enterLoop-does _ l rs c fs a v
+  passRecord-does (choiceRecord ∷ rs) c fs a v = (refl, omega arith)
+  passRecord-does (nextArmRecord ∷ rs) c [] a v = refl
+  passRecord-does (nextArmRecord ∷ rs) c (loopFrame l body k sums enclosing ∷ fs) a v = refl
+  passRecord-does (nextArmRecord ∷ rs) c (choiceFrame passedArms enclosing ∷ fs) a v = (refl, omega arith)
+  passRecord-does (endRecord ∷ rs) c [] a v = refl
+  passRecord-does (endRecord ∷ rs) c (choiceFrame passedArms enclosing ∷ fs) a v = (refl, omega arith)
+  passRecord-does (endRecord ∷ rs) c (loopFrame l body k sums enclosing ∷ fs) a v =
+      endTrip-does _ (stateKeeping a (endRecord ∷ rs) c (loopFrame l body k sums enclosing ∷ fs) v) _ _ (refl, omega arith) (refl, omega arith)
 
   pub pass-does : (s : State) → PassDoes s (pass ps s)
   unfolding pass
-  pass-does s = passRecord-does (s .remaining) (s .current) (s .frames) (s .visits)
+  pass-does s = passRecord-does (s .remaining) (s .current) (s .frames) (s .arms) (s .visits)
 
   -- How many passes are allowed makes no difference where they are more than the records left: each pass that goes on leaves fewer.
   passFrom-enough : (m n : ℕ) (s : State) → length (s .remaining) < m → length (s .remaining) < n → passFrom ps m s ≡ passFrom ps n s
@@ -133,6 +133,6 @@ module _ (ps : List ℤ) where
       go (stuck t) d = omega (arith, d .0)
 
   -- at the sheet's end a stage returns the same state
-  pub stage-at-end : (c : Bounds) (fs : List Frame) (v : ℕ) → stage ps (state [] c fs v) ≡ atEnd (state [] c fs v)
+  pub stage-at-end : (c : Bounds) (fs : List Frame) (a : KeptArms) (v : ℕ) → stage ps (stateKeeping a [] c fs v) ≡ atEnd (stateKeeping a [] c fs v)
   unfolding stage passFrom andOn pass passRecord
-  stage-at-end c fs v = refl
+  stage-at-end c fs a v = refl

@@ -13,12 +13,13 @@ use Rattle.meaning.specs.Tree.{Block, Arms, empty, work, loop, choice, l
 use Rattle.meaning.specs.Time.{sumOver, trips, innerIndexes, time, armsTime}
 use Rattle.meaning.specs.Range.{Range, innerRanges}
 use Rattle.meaning.specs.Report.{loopReports, armsReports, firstOverCeiling}
-use Rattle.meaning.specs.Visits.{countOver, visitedTrips, visits, armsVisits}
+use Rattle.meaning.specs.Visits.{countOver, visitedTrips, visits, visitsBy, armsVisits}
 use Rattle.meaning.proofs.Sound.{WorkSound, LoopSound, Sound, ArmsSound}
 use Rattle.meaning.proofs.Trips.{Inside, tripTime, tripVisits, count-over-bound}
 use Rattle.meaning.proofs.Ranges.{trips-inside, trips-ceiling}
 use Rattle.meaning.proofs.Reports.{WithinCeiling, within-append, first-over-none}
-use Rattle.meaning.proofs.AddingUp.{first-counts-at-most, visited-most}
+use Rattle.meaning.proofs.SumsOfBounds.{first-counts-at-most}
+use Rattle.meaning.proofs.VisitedTrips.{visited-most}
 
 count-same : (n : ℕ) (f g : ℕ → ℕ) → ((k : ℕ) → f k ≡ g k) → countOver n f ≡ countOver n g
 unfolding countOver
@@ -32,7 +33,7 @@ join-bound u rs ss r =
 
 module _ (unit : ℕ) where
   -- what one record may come to inside at most d loops that make as many trips as a ceiling may be
-  abbrev recordBound : ℕ → ℕ
+  abbrev pub recordBound : ℕ → ℕ
   recordBound d = unit * ceilingLimit ^ d
 
   record-bound-suc : (d : ℕ) → recordBound (suc d) ≡ ceilingLimit * recordBound d
@@ -149,10 +150,16 @@ module _ (ps : List ℤ) where
     ofArm = λ b arms ranges indexes. omega arith;
   }
 
+  -- of a part of a sheet
+  pub most-bound : (b : Block) → Sound b → (ranges : List Range) (indexes : List ℤ) (at d : ℕ) → Inside indexes ranges →
+      WithinCeiling (loopReports ps b ranges at) → height b ≤ d → time ps b indexes .most ≤ recordBound costLimit d * length (records b)
+  unfolding most-amount
+  most-bound b s ranges indexes at d i w h = amount-bound costLimit most-amount b s ranges indexes at d i w h
+
   -- ---- the visits: a loop has one in each of its visited trips
 
   visits-amount : Amount 1
-  unfolding visits
+  unfolding visitsBy
   visits-amount = record {
     of = visits ps;
     ofArms = armsVisits ps;
@@ -162,7 +169,7 @@ module _ (ps : List ℤ) where
         let made : ℕ = trips ps l indexes in
         omega (
           arith,
-          first-counts-at-most (visitedTrips ps l body ranges made) made (tripVisits ps l body ranges indexes) (visited-most ps l body ranges made),
+          first-counts-at-most (visitedTrips ps l body ranges indexes made) made (tripVisits ps l body ranges indexes) (visited-most ps l body ranges indexes made),
           count-same made (tripVisits ps l body ranges indexes) (λ trip. 1 + visits ps body (innerRanges ps l ranges) (innerIndexes ps l indexes trip))
               (λ trip. omega arith),
         );

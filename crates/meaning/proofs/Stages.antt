@@ -14,7 +14,8 @@ use Rattle.meaning.specs.Stage.{State, state, firstState, Step, going, b
 use Rattle.meaning.specs.Demand.{StagesReach}
 use Rattle.meaning.proofs.Sound.{Sound}
 use Rattle.meaning.proofs.Passes.{StageDoes, stage-does, stage-visits}
-use Rattle.meaning.proofs.AddingUp.{AddsUp, StepAddsUp, visits-at-most, ended-state, adds-up-stage, adds-up-stages, first-adds-up}
+use Rattle.meaning.proofs.Levels.{WalkedAround, AddsUp, visits-at-most, ended-state, walked-around}
+use Rattle.meaning.proofs.AddingUp.{StepAddsUp, adds-up-stage, adds-up-stages, first-adds-up}
 
 begun-once : (p : Step) → visitBegun p ≤ 1
 unfolding visitBegun
@@ -56,6 +57,10 @@ module _ (ps : List ℤ) where
 
     pub stages-add-up : (n : ℕ) → AddsUp ps whole all (after n)
     stages-add-up n = adds-up-stages ps whole all n (firstState rs) (first-adds-up ps rs sound same)
+
+    -- never two ranked loops are open
+    pub stages-walked-around : (n : ℕ) → WalkedAround ps (after n .frames)
+    stages-walked-around n = walked-around ps whole all (after n) (stages-add-up n)
 
     bounded : (n : ℕ) → after n .visits ≤ all
     bounded n = visits-at-most ps whole all (after n) (stages-add-up n)

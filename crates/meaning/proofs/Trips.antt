@@ -1,5 +1,5 @@
--- The words in which the theorems speak of a loop's trips: indexes inside their ranges, one trip's time and visits, the first trips; and what so many trips come to at most.
-use mathlib.Core.List.{List, [], _∷_, _++_}
+-- The words in which the theorems speak of a loop's trips: indexes inside their ranges, one trip's time and visits; and what so many trips come to at most.
+use mathlib.Core.List.{List, [], _∷_}
 use Prim.Native.Nat.{ℕ, zero, suc, _*_, _≤_, _<_}
 use native.Mathlib.Nat.{add-mul}
 use native.Mathlib.Omega.{arith}
@@ -17,11 +17,6 @@ Inside [] [] = Unit {0}
 Inside [] (r ∷ rs) = ⊥
 Inside (x ∷ xs) [] = ⊥
 Inside (x ∷ xs) (r ∷ rs) = (r .lo ≤ℤ x) × (x ≤ℤ r .hi) × Inside xs rs
-
--- f 0, .., f (n - 1)
-unfoldable pub firstSums : ℕ → (ℕ → Bounds) → List Bounds
-firstSums zero f = []
-firstSums (suc n) f = firstSums n f ++ (f n ∷ [])
 
 -- n amounts, each at most c
 pub count-over-bound : (n : ℕ) (f : ℕ → ℕ) (c : ℕ) → ((k : ℕ) → k < n → f k ≤ c) → countOver n f ≤ n * c

@@ -1,42 +1,70 @@
 -- The nest that counts up has the visits of the other, and the same is said of each of its loops; and the law for a whole nest (C-17).
-use mathlib.Core.Path.{_≡_, refl, sym, ap, _∙_}
+use mathlib.Core.Path.{_≡_, refl, ap, _∙_}
 use mathlib.Core.List.{List, [], _∷_, _++_}
-use mathlib.Core.Bool.{Bool, true, cond}
-use Prim.Native.Nat.{ℕ, zero, suc, _+_}
+use mathlib.Core.Bool.{Bool, true, cond, _&&_, _||_}
+use Prim.Native.Nat.{ℕ, suc, _+_, min}
 use lib.IntN.{ℤ}
 use lib.ListN.{length}
 use Rattle.meaning.specs.Record.{Loop, workRecord, loopRecord, choiceRecord, recordLength}
-use Rattle.meaning.specs.Tree.{Block, Arms, empty, work, loop, choice, lastArm, arm}
-use Rattle.meaning.specs.Time.{innerIndexes, time}
+use Rattle.meaning.specs.Tree.{Block, Arms, empty, work, loop, choice, lastArm, arm, height}
+use Rattle.meaning.specs.Time.{trips, innerIndexes, time}
 use Rattle.meaning.specs.Range.{Range, innerRanges}
-use Rattle.meaning.specs.Closed.{closedClass, walkedClass, closed, loopClass}
-use Rattle.meaning.specs.Visits.{countOver, visitedOf, visitedTrips, visits, armsVisits}
+use Rattle.meaning.specs.Closed.{closedClass, rankedClass, walkedClass, loopClass}
+use Rattle.meaning.specs.ClosedSum.{firstSums}
+use Rattle.meaning.specs.Settled.{allSettled, armsSums, choicesSums, settled, summed}
+use Rattle.meaning.specs.Visits.{countOver, visitedTrips, visits, visitsBy, armsVisits}
 use Rattle.meaning.specs.Report.{loopReports, armsReports}
 use Rattle.meaning.proofs.Upward.{turn, turnRange, turnEach, upwardLoop, downsInside, upward, upwardArms, countsUp}
-use Rattle.meaning.proofs.Logic.{same-truth}
-use Rattle.meaning.proofs.PassingTests.{closed-without-reason}
+use Rattle.meaning.proofs.RankedArms.{first-extensional}
 use Rattle.meaning.proofs.UpwardLoops.{trips-upward, inner-indexes-upward, inner-indexes-length}
 use Rattle.meaning.proofs.UpwardLoops.{ceiling-upward, inner-ranges-upward, inner-ranges-length}
 use Rattle.meaning.proofs.UpwardTrees.{height-upward, start-upward, after-loop-upward, after-choice-upward, after-arm-upward, counts-up, time-upward}
 use Rattle.meaning.proofs.UpwardReasons.{reason-upward}
+use Rattle.meaning.proofs.UpwardClosable.{closed-upward, ranked-upward}
 
 module _ (ps : List ℤ) where
-  -- ---- the class: a loop is closed exactly where it has no reason
-
-  closed-upward : (downs : List Bool) (l : Loop) (body : Block) (ranges : List Range) → length ranges ≡ length downs →
-      closed ps (upwardLoop downs l) (upward (downsInside l downs) body) (turnEach turnRange downs ranges) ≡ closed ps l body ranges
-  closed-upward downs l body ranges same =
-      let reason = reason-upward ps downs l body ranges zero same in
-      let new = closed-without-reason ps (upwardLoop downs l) (upward (downsInside l downs) body) (turnEach turnRange downs ranges) zero in
-      let old = closed-without-reason ps l body ranges zero in
-      same-truth _ _ (λ c. old .0 (sym reason ∙ new .1 c)) (λ c. new .0 (reason ∙ old .1 c))
+  -- ---- the class
 
   class-upward : (downs : List Bool) (l : Loop) (body : Block) (ranges : List Range) → length ranges ≡ length downs →
       loopClass ps (upwardLoop downs l) (upward (downsInside l downs) body) (turnEach turnRange downs ranges) ≡ loopClass ps l body ranges
   unfolding loopClass
-  class-upward downs l body ranges same = ap (λ (c : Bool). cond c closedClass walkedClass) (closed-upward downs l body ranges same)
+  class-upward downs l body ranges same =
+      λ t. cond (closed-upward ps downs l body ranges same t) closedClass (cond (ranked-upward ps downs l body ranges same t) rankedClass walkedClass)
 
   -- ---- visits
+
+  -- the arms of choices take what they took, in each of the first trips
+  module _ (downs : List Bool) (count : ℕ) (upwardAt indexesAt : ℕ → List ℤ) (turned : (trip : ℕ) → upwardAt trip ≡ turnEach turn downs (indexesAt trip))
+      (alike : (trip : ℕ) → length (indexesAt trip) ≡ length downs) where
+    arm-times-upward : (b : Block) → firstSums count (λ trip. time ps (upward downs b) (upwardAt trip)) ≡ firstSums count (λ trip. time ps b (indexesAt trip))
+    arm-times-upward b =
+        first-extensional count _ _ (λ trip. ap (time ps (upward downs b)) (turned trip) ∙ time-upward ps b downs (indexesAt trip) (alike trip))
+
+    arms-sums-upward : (arms : Arms) → armsSums ps count upwardAt (upwardArms downs arms) ≡ armsSums ps count indexesAt arms
+    unfolding armsSums upward
+    arms-sums-upward (lastArm b) = λ t. arm-times-upward b t ∷ []
+    arms-sums-upward (arm b arms) = λ t. arm-times-upward b t ∷ arms-sums-upward arms t
+
+    choices-sums-upward : (b : Block) → choicesSums ps count upwardAt (upward downs b) ≡ choicesSums ps count indexesAt b
+    unfolding choicesSums upward
+    choices-sums-upward empty = refl
+    choices-sums-upward (work least most rest) = choices-sums-upward rest
+    choices-sums-upward (loop l body rest) = choices-sums-upward rest
+    choices-sums-upward (choice arms rest) = λ t. arms-sums-upward arms t ∷ choices-sums-upward rest t
+
+  visited-upward : (downs : List Bool) (l : Loop) (body : Block) (ranges : List Range) (indexes : List ℤ) (n : ℕ) →
+      length ranges ≡ length downs → length indexes ≡ length downs →
+      visitedTrips ps (upwardLoop downs l) (upward (downsInside l downs) body) (turnEach turnRange downs ranges) (turnEach turn downs indexes) n
+      ≡ visitedTrips ps l body ranges indexes n
+  unfolding visitedTrips summed settled
+  visited-upward downs l body ranges indexes n same alike =
+      let inside = downsInside l downs in
+      let sums = ap (λ (h : ℕ). choicesSums ps (min n (suc h)) (innerIndexes ps (upwardLoop downs l) (turnEach turn downs indexes)) (upward inside body))
+      (height-upward body inside)
+      ∙ choices-sums-upward inside (min n (suc (height body))) (innerIndexes ps (upwardLoop downs l) (turnEach turn downs indexes)) (innerIndexes ps l indexes)
+      (inner-indexes-upward downs l ps indexes alike) (inner-indexes-length downs l ps indexes alike) body in
+      λ t. cond (closed-upward ps downs l body ranges same t || (ranked-upward ps downs l body ranges same t && allSettled (sums t)))
+      (min n (suc (height-upward body inside t))) n
 
   -- a body in a trip of loop l
   enter-upward : (downs : List Bool) (l : Loop) (ranges : List Range) (indexes : List ℤ) → length ranges ≡ length downs → length indexes ≡ length downs →
@@ -48,7 +76,7 @@ module _ (ps : List ℤ) where
       λ t. visits ps body (inner-ranges-upward downs l ps ranges same t) (inner-indexes-upward downs l ps indexes alike trip t)
 
   mutual
-    unfolding visits visitedTrips upward
+    unfolding visitsBy upward
 
     visits-upward : (b : Block) (downs : List Bool) (ranges : List Range) (indexes : List ℤ) → length ranges ≡ length downs → length indexes ≡ length downs →
         visits ps (upward downs b) (turnEach turnRange downs ranges) (turnEach turn downs indexes) ≡ visits ps b ranges indexes
@@ -56,7 +84,8 @@ module _ (ps : List ℤ) where
     visits-upward (work least most rest) downs ranges indexes same alike = visits-upward rest downs ranges indexes same alike
     visits-upward (loop l body rest) downs ranges indexes same alike =
         let inside = downsInside l downs in
-        λ t. countOver (visitedOf (class-upward downs l body ranges same t) (height-upward body inside t) (trips-upward downs l ps indexes t))
+        λ t. countOver ((ap (visitedTrips ps (upwardLoop downs l) (upward inside body) (turnEach turnRange downs ranges) (turnEach turn downs indexes)) (trips-upward downs l ps indexes)
+        ∙ visited-upward downs l body ranges indexes (trips ps l indexes) same alike) t)
         (λ trip. suc ((enter-upward downs l ranges indexes same alike trip (upward inside body)
         ∙ visits-upward body inside (innerRanges ps l ranges) (innerIndexes ps l indexes trip) (inner-ranges-length downs l ps ranges same)
         (inner-indexes-length downs l ps indexes alike trip)) t))

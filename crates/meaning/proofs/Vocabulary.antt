@@ -12,7 +12,7 @@ use Rattle.meaning.specs.Form.{Form}
 use Rattle.meaning.specs.Record.{Loop, Record}
 use Rattle.meaning.specs.Reader.{Result, ok, refused, read, Head}
 use Rattle.meaning.specs.Writer.{RawRecord, Written}
-use Rattle.meaning.specs.Closed.{closedClass, walkedClass}
+use Rattle.meaning.specs.Closed.{closedClass, rankedClass, walkedClass}
 use Rattle.meaning.specs.Reason.{Reason}
 use Rattle.meaning.specs.Report.{LoopReport}
 use Rattle.meaning.specs.Stage.{State, firstState, stages}
@@ -69,6 +69,9 @@ closedLoop offset ceiling = record { offset = offset; class = closedClass; ceili
 
 abbrev pub walkedLoop : ℕ → ℕ → Reason → LoopReport
 walkedLoop offset ceiling reason = record { offset = offset; class = walkedClass; ceiling = ceiling; reason = some reason }
+
+abbrev pub rankedLoop : ℕ → ℕ → Reason → LoopReport
+rankedLoop offset ceiling reason = record { offset = offset; class = rankedClass; ceiling = ceiling; reason = some reason }
 
 unfoldable pub sheetReportsOf : List ℕ → List ℤ → List LoopReport
 sheetReportsOf sheet parameters = reportsOf parameters (read sheet)

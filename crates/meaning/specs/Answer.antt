@@ -44,11 +44,14 @@ module _ (reader : List ℕ → Result (List Record)) where
   unfoldable pub acceptedBy : List ℕ → List ℤ → Result (List Record)
   acceptedBy sheet parameters = andThen (reader sheet) λ rs. checkCeilings (firstOverCeiling (sheetReports parameters rs)) rs
 
-  -- 7, then 1 to 5, then 6, then 8
-  unfoldable pub answerBy : List ℕ → List ℤ → ℕ → Result Figures
-  answerBy sheet parameters budget =
+  -- 7, then 1 to 5, then 6, then 8, where a tree has these figures
+  unfoldable pub answerWith : (List ℤ → Block → Figures) → List ℕ → List ℤ → ℕ → Result Figures
+  answerWith figuresFor sheet parameters budget =
       require (leb 1 budget && leb budget budgetLimit) 7 0
-      (andThen (acceptedBy sheet parameters) λ rs. checkVisits budget (figuresOf parameters (tree rs)))
+      (andThen (acceptedBy sheet parameters) λ rs. checkVisits budget (figuresFor parameters (tree rs)))
+
+  abbrev pub answerBy : List ℕ → List ℤ → ℕ → Result Figures
+  answerBy = answerWith figuresOf
 
 -- by the reader that there is
 abbrev pub accepted : List ℕ → List ℤ → Result (List Record)

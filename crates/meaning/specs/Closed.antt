@@ -1,6 +1,6 @@
--- Pushes, and which loops are closed.
+-- Pushes, and which loops are closed, ranked or walked.
 use mathlib.Core.List.{List, [], _∷_, _++_, map}
-use mathlib.Core.Bool.{Bool, true, false, cond, _&&_}
+use mathlib.Core.Bool.{Bool, true, false, cond, not, _&&_}
 use Prim.Native.Nat.{ℕ, zero}
 use lib.IntN.{ℤ, pos, negℤ}
 use lib.Signed.{leZ}
@@ -9,7 +9,7 @@ use lib.ListN.{length, replicate}
 use Rattle.whole.specs.Integer.{dot, divides}
 use Rattle.meaning.specs.Form.{Form}
 use Rattle.meaning.specs.Record.{Loop, strideSize, skipCycles}
-use Rattle.meaning.specs.Tree.{Block, empty, work, loop, choice, armsLoops}
+use Rattle.meaning.specs.Tree.{Block, Arms, empty, work, loop, choice, lastArm, arm, armsLoops}
 use Rattle.meaning.specs.Time.{difference}
 use Rattle.meaning.specs.Range.{Range, innerRanges, differenceRange}
 
@@ -40,12 +40,13 @@ strideDivides l (pushes ∷ others) = divides (strideSize l) (push (difference l
 unfoldable pub askedDifference : Loop → ℤ
 askedDifference l = cond (eqb (skipCycles l) (l .start)) (negℤ (pos (strideSize l))) (pos zero)
 
--- document 01: a loop is closed, or otherwise walked
+-- document 01: a loop is closed, or otherwise walked; document 02, C-18: some of those that are not closed are ranked
 pub data LoopClass : Type 0 where
-  closedClass walkedClass : LoopClass
+  closedClass rankedClass walkedClass : LoopClass
 
 unfoldable pub isClosed : LoopClass → Bool
 isClosed closedClass = true
+isClosed rankedClass = false
 isClosed walkedClass = false
 
 module _ (parameters : List ℤ) where
@@ -64,5 +65,21 @@ module _ (parameters : List ℤ) where
   unfoldable pub closed : Loop → Block → List Range → Bool
   closed l body ranges = closable body (innerRanges parameters l ranges) (pushOwn l (length ranges) ∷ [])
 
+  -- "each arm itself passing the tests": as if it stood in the choice's place
+  unfoldable pub armsClosable : Arms → List Range → List (List ℤ) → Bool
+  armsClosable (lastArm b) ranges pushes = closable b ranges pushes
+  armsClosable (arm b arms) ranges pushes = closable b ranges pushes && armsClosable arms ranges pushes
+
+  -- what ranking a loop asks of its body: what closing asks, but of a choice standing directly in it only that each arm passes the tests
+  unfoldable pub rankable : Block → List Range → List (List ℤ) → Bool
+  rankable empty ranges pushes = true
+  rankable (work least most rest) ranges pushes = rankable rest ranges pushes
+  rankable (loop l body rest) ranges pushes = closable (loop l body empty) ranges pushes && rankable rest ranges pushes
+  rankable (choice arms rest) ranges pushes = armsClosable arms ranges pushes && rankable rest ranges pushes
+
+  -- document 02, C-18: ranked. "A loop whose only bar to closing is choices standing directly in its body"
+  unfoldable pub ranked : Loop → Block → List Range → Bool
+  ranked l body ranges = not (closed l body ranges) && rankable body (innerRanges parameters l ranges) (pushOwn l (length ranges) ∷ [])
+
   unfoldable pub loopClass : Loop → Block → List Range → LoopClass
-  loopClass l body ranges = cond (closed l body ranges) closedClass walkedClass
+  loopClass l body ranges = cond (closed l body ranges) closedClass (cond (ranked l body ranges) rankedClass walkedClass)

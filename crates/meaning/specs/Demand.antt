@@ -72,7 +72,7 @@ module _ (parameters : List ℤ) (rs : List Record) where
     pub onlyEnd : (n : ℕ) → s .AtEnd (s .after n) → s .after n ≡ s .ended f
     pub noneBefore : (n : ℕ) → n ≤ f .visits → s .AtEnd (s .after n) → (n ≡ 0) × (rs ≡ [])
     -- after any number of stages the visits are how many of these began one; those answered are how many began one on the way to the sheet's
-    -- end, and those that document 01 defines
+    -- end, and those of the definition (`Visits`)
     pub counted : (n : ℕ) → s .visits (s .after n) ≡ s .begun n
     pub begun : f .visits ≡ s .begun (suc (f .visits))
     pub defined : f .visits ≡ Defined.visits parameters (tree rs) [] []

@@ -9,14 +9,16 @@ pub mod Time
 pub mod Run
 pub mod Range
 pub mod Closed
+pub mod ClosedSum
+pub mod Settled
 pub mod Visits
 pub mod Place
 pub mod Reason
 pub mod ReasonOrder
 pub mod Report
-pub mod ClosedSum
 pub mod Stage
 pub mod Answer
+pub mod EarlierVisits
 pub mod Converter
 pub mod Moved
 pub mod EarlierReaders

@@ -11,7 +11,7 @@ use Rattle.meaning.specs.Text.{text, decimal}
 use Rattle.meaning.specs.Number.{unsigned, signed16}
 use Rattle.meaning.specs.Record.{Record}
 use Rattle.meaning.specs.Reader.{Result, ok, refused, read}
-use Rattle.meaning.specs.Closed.{LoopClass, closedClass, walkedClass}
+use Rattle.meaning.specs.Closed.{LoopClass, closedClass, rankedClass, walkedClass}
 use Rattle.meaning.specs.Report.{LoopReport}
 use Rattle.meaning.specs.ReasonLine.{reasonLines}
 use Rattle.meaning.specs.Answer.{Figures, sheetReports, answerBy}
@@ -23,13 +23,14 @@ figuresLine f = text "best " ++ decimal (f .least) ++ text " worst " ++ decimal 
 -- the word for a loop's class
 unfoldable pub className : LoopClass → String
 className closedClass = "closed"
+className rankedClass = "ranked"
 className walkedClass = "walked"
 
--- `loop O closed ceiling C`, or walked
+-- `loop O closed ceiling C`, or ranked or walked
 unfoldable pub loopLine : LoopReport → List ℕ
 loopLine r = text "loop " ++ decimal (r .offset) ++ text " " ++ text (className (r .class)) ++ text " ceiling " ++ decimal (r .ceiling) ++ text "\n"
 
--- document 02: a loop's line, and after that of a walked loop the line of its reason
+-- document 02: a loop's line, and after that of a loop that is not closed the line of its reason
 unfoldable pub reportLines : LoopReport → List ℕ
 reportLines r = loopLine r ++ reasonLines (r .reason)
 

@@ -1,4 +1,4 @@
--- Why a loop is walked: the first of the tests for closing that fails, in document 02's order (C-11).
+-- Why a loop is not closed: the first of the tests for closing that fails, in document 02's order (C-11).
 use mathlib.Core.List.{List, [], _∷_, _++_, map}
 use mathlib.Core.Bool.{Bool, not, cond}
 use mathlib.Core.Option.{Option, none, some}
@@ -92,6 +92,6 @@ module _ (parameters : List ℤ) where
       let start : ℕ = at + recordLength (loopRecord l) in
       choiceTests body start ++ loopTests body (innerRanges parameters l ranges) (aroundWith l (length ranges) at []) start
 
-  -- why the loop is walked; a closed loop has no reason
+  -- why the loop is not closed; a closed loop has no reason
   unfoldable pub reasonOf : Loop → Block → List Range → ℕ → Option Reason
   reasonOf l body ranges at = firstFailing (closingTests l body ranges at)

@@ -1,4 +1,4 @@
--- What is said of each loop, in sheet order: its offset, whether it is closed or walked, its ceiling, and why it is walked.
+-- What is said of each loop, in sheet order: its offset, whether it is closed, ranked or walked, its ceiling, and why it is not closed.
 use mathlib.Core.List.{List, [], _∷_, _++_}
 use mathlib.Core.Bool.{Bool, true, false, _&&_}
 use mathlib.Core.Option.{Option, none, some}

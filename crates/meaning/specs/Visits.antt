@@ -1,38 +1,43 @@
 -- Visits, by the definition.
 use mathlib.Core.List.{List}
+use mathlib.Core.Bool.{cond}
 use Prim.Native.Nat.{ℕ, zero, suc, _+_, min}
 use lib.IntN.{ℤ}
 use Rattle.meaning.specs.Record.{Loop}
 use Rattle.meaning.specs.Tree.{Block, Arms, empty, work, loop, choice, lastArm, arm, height}
 use Rattle.meaning.specs.Time.{trips, innerIndexes}
 use Rattle.meaning.specs.Range.{Range, innerRanges}
-use Rattle.meaning.specs.Closed.{LoopClass, closedClass, walkedClass, loopClass}
+use Rattle.meaning.specs.Settled.{summed}
 
 -- f 0 + .. + f (n - 1)
 unfoldable pub countOver : ℕ → (ℕ → ℕ) → ℕ
 countOver zero f = zero
 countOver (suc n) f = countOver n f + f n
 
--- how many of n trips a loop of this class and height visits: all where it is walked, the first min(n, height + 1) where it is closed
-unfoldable pub visitedOf : LoopClass → ℕ → ℕ → ℕ
-visitedOf closedClass h n = min n (suc h)
-visitedOf walkedClass h n = n
-
 module _ (parameters : List ℤ) where
-  unfoldable pub visitedTrips : Loop → Block → List Range → ℕ → ℕ
-  visitedTrips l body ranges n = visitedOf (loopClass parameters l body ranges) (height body) n
+  -- document 01: visits of an entry: for each trip visited, 1 plus those of the body; all arms count. `visited` is how many of n trips of an
+  -- entered loop are visited
+  module _ (visited : Loop → Block → List Range → List ℤ → ℕ → ℕ) where
+    unfoldable mutual
+      pub visitsBy : Block → List Range → List ℤ → ℕ
+      visitsBy empty ranges indexes = zero
+      visitsBy (work least most rest) ranges indexes = visitsBy rest ranges indexes
+      visitsBy (loop l body rest) ranges indexes =
+          countOver (visited l body ranges indexes (trips parameters l indexes))
+          (λ trip. suc (visitsBy body (innerRanges parameters l ranges) (innerIndexes parameters l indexes trip)))
+          + visitsBy rest ranges indexes
+      visitsBy (choice arms rest) ranges indexes = armsVisitsBy arms ranges indexes + visitsBy rest ranges indexes
 
-  -- document 01: visits of an entry: for each trip visited, 1 plus those of the body; all arms count
-  unfoldable mutual
-    pub visits : Block → List Range → List ℤ → ℕ
-    visits empty ranges indexes = zero
-    visits (work least most rest) ranges indexes = visits rest ranges indexes
-    visits (loop l body rest) ranges indexes =
-        countOver (visitedTrips l body ranges (trips parameters l indexes))
-        (λ trip. suc (visits body (innerRanges parameters l ranges) (innerIndexes parameters l indexes trip)))
-        + visits rest ranges indexes
-    visits (choice arms rest) ranges indexes = armsVisits arms ranges indexes + visits rest ranges indexes
+      pub armsVisitsBy : Arms → List Range → List ℤ → ℕ
+      armsVisitsBy (lastArm b) ranges indexes = visitsBy b ranges indexes
+      armsVisitsBy (arm b arms) ranges indexes = visitsBy b ranges indexes + armsVisitsBy arms ranges indexes
 
-    pub armsVisits : Arms → List Range → List ℤ → ℕ
-    armsVisits (lastArm b) ranges indexes = visits b ranges indexes
-    armsVisits (arm b arms) ranges indexes = visits b ranges indexes + armsVisits arms ranges indexes
+  -- the first min(n, height + 1) where the rest is summed, otherwise all
+  unfoldable pub visitedTrips : Loop → Block → List Range → List ℤ → ℕ → ℕ
+  visitedTrips l body ranges indexes n = cond (summed parameters l body ranges indexes n) (min n (suc (height body))) n
+
+  abbrev pub visits : Block → List Range → List ℤ → ℕ
+  visits = visitsBy visitedTrips
+
+  abbrev pub armsVisits : Arms → List Range → List ℤ → ℕ
+  armsVisits = armsVisitsBy visitedTrips

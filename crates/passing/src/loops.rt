@@ -1,14 +1,16 @@
 // Passing a loop's record, or its end.
 ghost use mathlib.Core.Path.{_≡_};
+ghost use mathlib.Core.Bool.{true};
 ghost use Prim.Native.Nat.{suc, _+_, _-_, _<_, _≤_};
 ghost use Rattle.meaning.specs.Limits.{recordLimit, depthLimit, ceilingLimit};
-ghost use Rattle.state.specs.Open.{partsIn, counterAt};
+ghost use Rattle.state.specs.Open.{partsIn, armsIn, counterAt};
+ghost use Rattle.state.specs.Sums.{visitBegins};
 ghost use Rattle.state.specs.States.{stateIn};
-ghost use Rattle.passing.specs.Pass.{tripJoined, leftParts, leftSums, endTrip, enterLoop, passLoop};
-use form::MAX_DEPTH;
+ghost use Rattle.passing.specs.Pass.{tripJoined, summedTrips, unsettledParts, leftParts, leftSums};
+ghost use Rattle.passing.specs.Pass.{goesUnsettled, armsLeft, endTrip, enterLoop, passLoop};
 use layout::differences::Differences;
 use layout::limits::Limits;
-use layout::limits::limit_at;
+use layout::limits::ranked_at;
 use layout::rows::LOOP;
 use layout::rows::Rows;
 use layout::rows::after_end_at;
@@ -20,6 +22,10 @@ use layout::rows::role_at;
 use layout::rows::step_at;
 use newton::weighted_sum;
 use newton::weights_of;
+use ranking::body::settled;
+use state::arms::arm_numbers;
+use state::arms::drop_arms;
+use state::arms::kept_arms;
 use state::frames::add_around;
 use state::frames::close_frame;
 use state::frames::leave_frame;
@@ -34,10 +40,12 @@ use state::open::put_counter;
 use state::sums::LEAST;
 use state::sums::MOST;
 use state::sums::Sums;
+use state::sums::VISITS;
 use state::sums::add;
 use state::sums::begin_visit;
 use state::sums::smaller;
 use trips::further;
+use trips::limit_now;
 use trips::trips_at;
 use trips::visited_by;
 
@@ -61,6 +69,42 @@ fn join_trip(limit: u64, around: usize, frame: usize, counter: u64, sums: &Sums,
     keep(opened, around, counter as usize, sums);
 }
 
+// The sum of so many trips, from the first ones: `held` kept ones and the open one.
+fn sum_trips(opened: &Open, around: usize, held: u64, trips: u64, sums: Sums) -> Sums
+    requires { ⌜ (around + held < depthLimit) × (trips ≤ ceilingLimit) ⌝ }
+    ensures { λ r. ⌜ r ≡ summedTrips around sums (partsIn (now (opened .entry))) trips held ⌝ }
+{
+    let weights = weights_of(trips, held + 1);
+    let least = weighted_sum(
+        weights,
+        first_trips(opened, around, LEAST, held, sums[LEAST]),
+    );
+    let most = weighted_sum(weights, first_trips(opened, around, MOST, held, sums[MOST]));
+    [least, most, sums[VISITS]]
+}
+
+// A ranked loop goes on with its choices unsettled: the sum of the trips visited takes their place, and their arms are dropped.
+fn go_on_unsettled(
+    limit: u64,
+    around: usize,
+    frame: usize,
+    counter: u64,
+    sums: &Sums,
+    opened: &mut Open,
+)
+    requires { ⌜ counter ≡ counterAt (partsIn (now opened)) around ⌝ }
+    requires { ⌜ (around < depthLimit) × (((limit ≡ 0 → ⊥) × (limit + around ≤ depthLimit)) × (counter < ceilingLimit)) ⌝ }
+    ensures { λ _. ⌜ partsIn (now (opened .exit)) ≡ unsettledParts around frame (now (sums .entry)) (partsIn (now (opened .entry))) limit ⌝ }
+{
+    let held = smaller(counter, limit - 1);
+    let count = counter + 1;
+    let visited = sum_trips(opened, around, held, count, *sums);
+    put_counter(opened, around, count);
+    pass_trip(opened, frame, &visited);
+    forget(opened, around, held as usize);
+    drop_arms(opened);
+}
+
 // A loop is left: the sum of its trips goes to what is around it.
 fn leave_loop(
     limit: u64,
@@ -82,14 +126,9 @@ fn leave_loop(
         return;
     }
     let held = smaller(counter, limit - 1);
-    let weights = weights_of(trips, held + 1);
-    let least = weighted_sum(
-        weights,
-        first_trips(opened, around, LEAST, held, sums[LEAST]),
-    );
-    let most = weighted_sum(weights, first_trips(opened, around, MOST, held, sums[MOST]));
+    let summed = sum_trips(opened, around, held, trips, *sums);
     forget(opened, around, held as usize);
-    add_around(opened, frame, least, most, sums);
+    add_around(opened, frame, summed[LEAST], summed[MOST], sums);
     leave_frame(opened, frame);
 }
 
@@ -100,7 +139,51 @@ fn loops_around(depth: usize) -> usize
     if depth == 0 { 0 } else { depth - 1 }
 }
 
-// The end of a trip of the innermost open loop: a further trip opens, or the loop is left.
+// Whether the choices of a loop, if it is ranked, are unsettled after the trip that the counter counts, and some of its trips follow.
+fn goes_unsettled(
+    rows: &Rows,
+    ranked: bool,
+    opener: usize,
+    trips: u64,
+    counter: u64,
+    opened: &Open,
+) -> bool
+    ensures { λ r. ⌜ r ≡ goesUnsettled (now (rows .entry)) ranked opener trips counter (armsIn (now (opened .entry))) ⌝ }
+{
+    if !ranked {
+        return false;
+    }
+    if !further(counter, trips) {
+        return false;
+    }
+    let count = counter + 1;
+    let arms = kept_arms(opened) / (count as usize);
+    !settled(rows, opener, arm_numbers(opened), count, arms)
+}
+
+// The arms of a ranked loop that is left are dropped.
+fn leave_arms(ranked: bool, opened: &mut Open)
+    ensures { λ _. ⌜ partsIn (now (opened .exit)) ≡ armsLeft ranked (partsIn (now (opened .entry))) ⌝ }
+{
+    if ranked {
+        drop_arms(opened);
+    }
+}
+
+// A further trip of a loop opens.
+fn open_trip(opener: usize, depth: usize, sums: &mut Sums) -> Outcome
+    requires { ⌜ opener < recordLimit ⌝ }
+    ensures { λ r. ⌜ (now (sums .exit) ≡ visitBegins (now (sums .entry))) × (r ≡ record { at = opener + 1; depth = depth; begun = true }) ⌝ }
+{
+    begin_visit(sums);
+    Outcome {
+        at: opener + 1,
+        depth: depth,
+        begun: true,
+    }
+}
+
+// The end of a trip of the innermost open loop: a further trip opens, maybe with the choices found unsettled, or the loop is left.
 fn end_trip(
     rows: &Rows,
     differences: &Differences,
@@ -120,21 +203,22 @@ fn end_trip(
     let number = loop_at(rows, opener);
     let around = loops_around(depth);
     let trips = trips_at(differences, opened, number);
-    let limit = smaller(limit_at(limits, number), (MAX_DEPTH - around) as u64);
     let step = step_at(rows, opener);
     add(sums, step, step);
     let counter = counter_at(opened, around);
+    let limit = limit_now(limits, number, around, counter);
     if further(counter, visited_by(limit, trips)) {
         join_trip(limit, around, frame, counter, sums, opened);
         put_counter(opened, around, counter + 1);
-        begin_visit(sums);
-        return Outcome {
-            at: opener + 1,
-            depth: depth,
-            begun: true,
-        };
+        return open_trip(opener, depth, sums);
+    }
+    let ranked = ranked_at(limits, number);
+    if goes_unsettled(rows, ranked, opener, trips, counter, opened) {
+        go_on_unsettled(limit, around, frame, counter, sums, opened);
+        return open_trip(opener, depth, sums);
     }
     leave_loop(limit, around, frame, trips, sums, opened);
+    leave_arms(ranked, opened);
     Outcome {
         at: at + 1,
         depth: around,

@@ -1,16 +1,14 @@
 -- The walk that stores the limits: those of the loops passed.
 use mathlib.Core.List.{_++_, List, [], append-nil, map-append, _∷_}
 use mathlib.Core.Option.{Option, none, some}
-use mathlib.Core.Path.{ap, ap₂, refl, subst, sym, _∙_, _≡_}
-use Prim.Native.Nat.{_%_, _+_, _-_, _<_, _^_, suc, zero, ℕ, _≤_}
+use mathlib.Core.Path.{ap, ap₂, refl, sym, _∙_, _≡_}
+use Prim.Native.Nat.{_%_, _+_, _-_, _<_, suc, zero, ℕ, _≤_}
 use native.Mathlib.Numerals.{add-one}
 use native.Mathlib.Omega.{arith}
-use native.Mathlib.Nat.{mod-eq-of-lt}
 use lib.ListN.{drop, getD, length, length-map, take}
-use lib.Seq.{length-take-le, paste, take-all, take-suc}
+use lib.Seq.{paste, take-all, take-suc}
 use lib.IntN.{ℤ}
-use Rattle.meaning.specs.Record.{endRecord, loopRecord, Record, Open, Loop}
-use Rattle.meaning.proofs.Accepted.{InPlace}
+use Rattle.meaning.specs.Record.{endRecord, Record, Open, Loop}
 use Rattle.layout.specs.Rows.{depthAt, endAt, loopAt, roleAt, roleNumber, roleOf}
 use Rattle.layout.specs.Loops.{loopLimit}
 use Rattle.layout.specs.Numbers.{storedIn}
@@ -18,25 +16,24 @@ use Rattle.layout.proofs.Reading.{limits-next}
 use Rattle.layout.proofs.Storing.{stored-none}
 use Rattle.nest.specs.Walk.{recordsInside}
 use Rattle.sheet.specs.Sheets.{recordsOf}
-use Rattle.sheet.proofs.SheetRecords.{around, records-in-place}
 use Rattle.nest.proofs.Walks.{opensThrough}
 use Rattle.loops.specs.Facts.{factsAt, loopFacts, loopsIn, sheetFacts, LoopFacts}
 use Rattle.loops.proofs.AtRecord.{fact-at, loop-there, no-facts, number-is, role-is}
 use Rattle.loops.proofs.LoopsRead.{loops-append-in}
 use Rattle.planner.specs.Known.{KnownInside, Surveyed}
-use Rattle.planner.specs.Closing.{limitAmong, planAt, LoopPlan}
+use Rattle.planner.specs.Closing.{classAmong, heightAbove, numberAmong, numberOf, planAt, LoopPlan}
 use Rattle.planner.specs.Plan.{limitsStored, sheetPlans}
-use Rattle.planner.proofs.PlansOf.{definedPlan, limit-below, loop-plan, loops-before-plans, plan-of-record, plans-length}
-use Rattle.loops.specs.Enclosing.{loopsAround}
+use Rattle.planner.proofs.PlansOf.{loops-before-plans, plan-of-record, plans-length}
+use Rattle.loops.specs.Enclosing.{Enclosing, loopsAround}
 use Rattle.planner.proofs.AtLoop.{depth-there, end-there, known-inside}
 
 limits-size : (plans : List LoopPlan) → length (limitsStored plans) ≡ length plans
 unfolding limitsStored
-limits-size plans = length-map plans (λ p. p .limit)
+limits-size plans = length-map plans (λ p. numberOf (p .class) (p .height))
 
-limits-more : (plans : List LoopPlan) (p : LoopPlan) → limitsStored plans ++ (p .limit ∷ []) ≡ limitsStored (plans ++ (p ∷ []))
+limits-more : (plans : List LoopPlan) (p : LoopPlan) → limitsStored plans ++ (numberOf (p .class) (p .height) ∷ []) ≡ limitsStored (plans ++ (p ∷ []))
 unfolding limitsStored
-limits-more plans p = sym (map-append (λ q. q .limit) plans (p ∷ []))
+limits-more plans p = sym (map-append (λ q. numberOf (q .class) (q .height)) plans (p ∷ []))
 
 pub record Limited (count : ℕ) (rows differences facts before limits : List ℕ) (n : ℕ) : Type 0 where
   pub so-far : n ≤ count
@@ -94,11 +91,11 @@ module _ {count : ℕ} {rows differences facts before limits : List ℕ} {n : �
           (sym (one-more sheet ps s none no-plan ∙ (unfold loopsIn in append-nil (loopsIn (take n (plans sheet ps s))))));
     }
 
-    pub limited-next : role ≡ 1 → {number limit stored : ℕ} → number ≡ loopAt rows n →
+    pub limited-next : role ≡ 1 → {number stored : ℕ} → number ≡ loopAt rows n →
         ((fs : List (Option LoopFacts)) → KnownInside rows differences facts n fs →
-        limit ≡ limitAmong (depthAt rows n) (take (endAt rows n - (n + 1)) (drop (n + 1) fs))) → stored ≡ limit % 2 ^ 16 →
+        stored ≡ numberAmong (depthAt rows n) (take (endAt rows n - (n + 1)) (drop (n + 1) fs))) →
         {limits2 : List ℕ} → limits2 ≡ paste limits (number % loopLimit) (stored ∷ []) 1 → Limited count rows differences facts before limits2 (n + 1)
-    limited-next one {number} {limit} {stored} numberIs limitIs storedIs {limits2} put = record {
+    limited-next one {number} {stored} numberIs storedIs {limits2} put = record {
       so-far = omega arith;
       storedSoFar = λ sheet ps s.
           let rs : List Record = recordsOf sheet in
@@ -106,37 +103,26 @@ module _ {count : ℕ} {rows differences facts before limits : List ℕ} {n : �
           let there : n < length rs = here sheet ps s in
           let found = loop-there (this sheet ps s) (sym (role-there sheet ps s) ∙ one) in
           let l : Loop = found .0 in
-          let xs : List Record = take n rs in
-          let ys : List Record = drop (suc n) rs in
-          let os : List Open = opensThrough [] xs in
-          let size : length xs ≡ n = length-take-le n rs (omega (arith, there)) in
-          let split : rs ≡ xs ++ (loopRecord l ∷ ys) = around sheet n there ∙ ap (λ (r : Record). xs ++ (r ∷ ys)) (found .1) in
-          let place : InPlace [] (xs ++ (loopRecord l ∷ ys)) = subst (InPlace []) split (records-in-place sheet) in
-          let fact : LoopFacts = loopFacts ps os (loopsAround ps xs) l in
-          let is : getD fs n none ≡ some fact = fact-at sheet ps n there ∙ ap (factsAt ps os (loopsAround ps xs)) (found .1) ∙ (unfold factsAt in refl) in
-          let inner : ℕ = recordsInside zero ys in
+          let os : List Open = opensThrough [] (take n rs) in
+          let es : Enclosing = loopsAround ps (take n rs) in
+          let fact : LoopFacts = loopFacts ps os es l in
+          let is : getD fs n none ≡ some fact = fact-at sheet ps n there ∙ ap (factsAt ps os es) (found .1) ∙ (unfold factsAt in refl) in
+          let inner : ℕ = recordsInside zero (drop (suc n) rs) in
+          let inside : List (Option LoopFacts) = take inner (drop (suc n) fs) in
           let end : endAt rows n - (n + 1) ≡ inner = omega (arith, end-there s n there l (found .1)) in
           let depth : depthAt rows n ≡ fact .depth = depth-there s n there l (found .1) ∙ (unfold loopFacts in refl) in
-          let value : limit ≡ limitAmong (fact .depth) (take inner (drop (suc n) fs)) =
-          limitIs fs (known-inside s n there l (found .1)) ∙ ap₂ (λ (d m : ℕ). limitAmong d (take m (drop (n + 1) fs))) depth end
-          ∙ ap (λ (m : ℕ). limitAmong (fact .depth) (take inner (drop m fs))) (add-one n) in
-          let plan : LoopPlan = record { facts = fact; limit = limit } in
-          let whole : planAt (some fact) (take inner (drop (suc n) fs)) ≡ some (record { facts = fact; limit = limitAmong (fact .depth) (take inner (drop (suc n) fs)) }) =
-          (unfold planAt in refl) in
+          let plan : LoopPlan = record { facts = fact; class = classAmong (fact .depth) inside; height = heightAbove (fact .depth) inside } in
+          let value : stored ≡ numberOf (plan .class) (plan .height) =
+          storedIs fs (known-inside s n there l (found .1)) ∙ ap₂ (λ (d m : ℕ). numberAmong d (take m (drop (n + 1) fs))) depth end
+          ∙ ap (λ (m : ℕ). numberAmong (fact .depth) (take inner (drop m fs))) (add-one n) ∙ (unfold numberAmong in refl) in
           let planned : getD (plans sheet ps s) n none ≡ some plan =
-          plan-of-record ps rs n there ∙ ap (λ (f : Option LoopFacts). planAt f (take inner (drop (suc n) fs))) is
-          ∙ whole ∙ ap {B = Option LoopPlan} (λ m. some (record { facts = fact; limit = m })) (sym value) in
-          let defined : some plan ≡ some (definedPlan ps l ys os (loopsAround ps xs)) =
-          sym planned ∙ ap₂ (λ (r : List Record) (m : ℕ). getD (sheetPlans ps r) m none) split (sym size) ∙ loop-plan ps xs l ys place in
-          let same : plan ≡ definedPlan ps l ys os (loopsAround ps xs) = cc in
-          let small : limit < 2 ^ 16 = omega (arith, ap (λ (p : LoopPlan). p .limit) same, limit-below ps xs l ys place) in
+          plan-of-record ps rs n there ∙ ap (λ (f : Option LoopFacts). planAt f inside) is ∙ (unfold planAt in refl) in
           let place-is = number-is sheet ps n there (s .sheetIs .rowsAre) l (found .1) in
           let passed : List LoopPlan = loopsIn (take n (plans sheet ps s)) in
           let at : number ≡ length (limitsStored passed) =
           numberIs ∙ place-is .0 ∙ sym (loops-before-plans ps rs n) ∙ sym (limits-size passed) in
-          let kept : stored ∷ [] ≡ limit ∷ [] = ap (λ (m : ℕ). m ∷ []) (storedIs ∙ mod-eq-of-lt small) in
-          put ∙ ap₂ (λ (b v : List ℕ). paste b (number % loopLimit) v 1) (g .storedSoFar sheet ps s) kept
-          ∙ limits-next before (limitsStored passed) number limit at (omega (arith, numberIs, place-is .1))
+          put ∙ ap₂ (λ (b : List ℕ) (v : ℕ). paste b (number % loopLimit) (v ∷ []) 1) (g .storedSoFar sheet ps s) value
+          ∙ limits-next before (limitsStored passed) number (numberOf (plan .class) (plan .height)) at (omega (arith, numberIs, place-is .1))
           ∙ ap (storedIn before)
           (limits-more passed plan ∙ ap limitsStored (sym (one-more sheet ps s (some plan) planned ∙ (unfold loopsIn in refl))));
     }

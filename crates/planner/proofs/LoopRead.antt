@@ -12,7 +12,7 @@ use Rattle.meaning.specs.Time.{difference}
 use Rattle.meaning.specs.Limits.{depthLimit, indexFactors, recordLimit}
 use Rattle.meaning.specs.Closed.{push}
 use Rattle.meaning.proofs.Accepted.{InPlace, loop-in-range}
-use Rattle.layout.specs.Loops.{baseAt, ceilingAt, choiceDepthAt, enoughAt, loopLimit, pushWordAt, strideAt, wordOf}
+use Rattle.layout.specs.Loops.{baseAt, ceilingAt, choiceDepthAt, enoughAt, loopLimit, pushWordAt, rankDepthAt, strideAt, wordOf}
 use Rattle.layout.specs.Rows.{depthAt, endAt, loopAt, offsetAt, roleAt, roleNumber, roleOf}
 use Rattle.nest.specs.Known.{RowsHeld}
 use Rattle.nest.specs.Rows.{endNumber}
@@ -24,7 +24,7 @@ use Rattle.nest.proofs.Walks.{loopsThrough, opensThrough}
 use Rattle.loops.specs.Enclosing.{Enclosing, loopsAround, nothingOpen}
 use Rattle.loops.specs.Facts.{LoopFacts, factsAt, factsFrom, loopFacts, loopsIn, sheetFacts}
 use Rattle.loops.specs.Known.{LoopsHeld}
-use Rattle.loops.proofs.LoopsRead.{base-reads, ceiling-reads, choice-reads, enough-reads, loop-among, push-reads, stride-reads}
+use Rattle.loops.proofs.LoopsRead.{base-reads, ceiling-reads, choice-reads, enough-reads, loop-among, push-reads, rank-reads, stride-reads}
 use Rattle.loops.proofs.Facts.{facts-after, facts-length, facts-take, loops-counted}
 use Rattle.loops.proofs.Enclosings.{nothing-open, open-loops-through}
 use Rattle.loops.proofs.AtRecord.{in-range-of}
@@ -141,6 +141,7 @@ module _ {ps : List ℤ} {rs : List Record} {rows differences facts : List ℕ} 
           strideIs = loop-stride;
           pushesAre = loop-push;
           choiceIs = ap (choiceDepthAt facts) number ∙ choice-reads before own after loops-here small;
+          rankIs = ap (rankDepthAt facts) number ∙ rank-reads before own after loops-here small;
           enoughIs = ap (enoughAt facts) number ∙ enough-reads before own after loops-here small;
           moves = stride-moves (loop-in-range os l (in-range-of l ys os (place-before xs (loopRecord l) ys split)));
           few = omega (arith, length-map (es .pushes) (push (difference l)), open-loops-through ps xs [] nothingOpen nothing-open .pushCount, shallow);

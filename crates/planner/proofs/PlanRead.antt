@@ -2,7 +2,7 @@
 use mathlib.Core.Bool.{Bool, cond, false, true}
 use mathlib.Core.List.{_++_, List, [], map, map-append, _∷_}
 use mathlib.Core.Option.{Option, none, some}
-use mathlib.Core.Path.{ap, refl, sym, _∙_, _≡_}
+use mathlib.Core.Path.{ap, ap₂, refl, sym, _∙_, _≡_}
 use Prim.Native.Nat.{_<_, suc, zero, ℕ, _≤_}
 use native.Mathlib.Omega.{arith}
 use lib.ListN.{drop, getD, length, length-append, length-map, take}
@@ -12,31 +12,54 @@ use Rattle.meaning.specs.Record.{Loop, strideSize, Open, kind, loopRecord, choi
 use Rattle.meaning.specs.Time.{difference}
 use Rattle.meaning.specs.Tree.{height, tree}
 use Rattle.meaning.specs.Limits.{indexFactors, recordLimit}
-use Rattle.meaning.specs.Closed.{closed, closedClass, loopClass, push, walkedClass}
+use Rattle.meaning.specs.Closed.{LoopClass, closed, closedClass, loopClass, push, ranked, rankedClass, walkedClass}
 use Rattle.meaning.specs.Form.{value}
 use Rattle.meaning.specs.Reason.{Reason, reasonOf}
 use Rattle.meaning.specs.Report.{reportOf}
 use Rattle.meaning.proofs.Accepted.{InPlace}
 use Rattle.meaning.proofs.Logic.{true→T}
 use Rattle.meaning.proofs.PassingTests.{closed-without-reason}
-use Rattle.layout.specs.Loops.{baseAt, limitAt, pushWordAt, strideAt, wordOf}
+use Rattle.layout.specs.Loops.{baseAt, limitAt, loopLimit, pushWordAt, rankedAt, rankedMark, strideAt, wordOf}
 use Rattle.layout.specs.Rows.{loopAt, roleAt, roleNumber, roleOf, roleOfKind}
 use Rattle.layout.specs.Numbers.{storedIn}
-use Rattle.layout.proofs.Reading.{limit-number}
+use Rattle.layout.proofs.Reading.{limit-number, ranked-number}
 use Rattle.nest.proofs.Walks.{opensThrough}
 use Rattle.loops.specs.Enclosing.{Enclosing, loopsAround}
-use Rattle.loops.specs.Facts.{LoopFacts, loopFacts, loopsIn, sheetFacts}
+use Rattle.loops.specs.Facts.{loopFacts, loopsIn}
 use Rattle.loops.proofs.LoopsRead.{loop-among}
 use Rattle.loops.proofs.Sizes.{SmallParameters}
-use Rattle.planner.specs.Closing.{classBy, limitOf, LoopPlan}
+use Rattle.planner.specs.Closing.{classBy, isRanked, limitOf, LoopPlan, numberOf}
 use Rattle.planner.specs.Known.{PlanHeld}
 use Rattle.planner.specs.Plan.{limitsStored, sheetPlans}
 use Rattle.planner.specs.Reports.{reasonBy, reportAt}
+use Rattle.planner.specs.Reasons.{reasonAt}
 use Rattle.planner.proofs.Limits.{class-of-limit}
 use Rattle.planner.proofs.LoopRead.{loop-base, loop-ceiling, loop-push, loop-stride, number, offset-here, place-here, role-here, small, there}
-use Rattle.planner.proofs.PlansOf.{definedPlan, loop-plan, loops-before-plans, plans-length}
+use Rattle.planner.proofs.PlansOf.{definedPlan, limit-below, loop-plan, loops-before-plans, plans-length}
 use Rattle.planner.proofs.PlanReports.{recordReports}
 use Rattle.planner.proofs.ReasonRead.{reason-read}
+
+-- of the loop with this number among the loops, the limits hold this value
+record StoredAt (limits : List ℕ) (j value : ℕ) : Type 0 where
+  before : List ℕ
+  numbers : List ℕ
+  limitsAre : limits ≡ storedIn before numbers
+  within : j < length numbers
+  below : j < loopLimit
+  valueIs : getD numbers j 0 ≡ value
+
+module _ (class : LoopClass) (height : ℕ) {limits : List ℕ} {j : ℕ} (stored : StoredAt limits j (numberOf class height)) where
+  limit-at : limitOf class height < rankedMark → limitAt limits j ≡ limitOf class height
+  limit-at fits =
+      ap (λ (b : List ℕ). limitAt b j) (stored .limitsAre)
+      ∙ limit-number (stored .before) (stored .numbers) j (isRanked class) (limitOf class height) (stored .within) (stored .below)
+      (stored .valueIs ∙ (unfold numberOf in refl)) fits
+
+  ranked-at : rankedAt limits j ≡ isRanked class
+  ranked-at =
+      ap (λ (b : List ℕ). rankedAt b j) (stored .limitsAre)
+      ∙ ranked-number (stored .before) (stored .numbers) j (isRanked class) (limitOf class height) (stored .within) (stored .below)
+      (stored .valueIs ∙ (unfold numberOf in refl))
 
 module _ {ps : List ℤ} {rs : List Record} {rows differences facts limits : List ℕ} (held : PlanHeld ps rs rows differences facts limits)
     (place : InPlace [] rs) (few : length rs ≤ recordLimit) where
@@ -67,49 +90,63 @@ module _ {ps : List ℤ} {rs : List Record} {rows differences facts limits : Lis
     plan-here =
         ap (λ (r : List Record). getD (sheetPlans ps r) (length xs) none) split ∙ loop-plan ps xs l ys (place-here (held .sheetIs) place few xs (loopRecord l) ys split)
 
-    pub plan-limit : limitAt limits (loopAt rows (length xs)) ≡ limitOf (loopClass ps l (tree ys) (es .ranges)) (height (tree ys))
+    abbrev class : LoopClass
+    class = loopClass ps l (tree ys) (es .ranges)
+
+    plan-number : StoredAt limits (loopAt rows (length xs)) (numberOf class (height (tree ys)))
     unfolding limitsStored definedPlan
-    plan-limit =
+    plan-number =
         let plans : List (Option LoopPlan) = sheetPlans ps rs in
-        let before : List LoopFacts = loopsIn (take (length xs) (sheetFacts ps rs)) in
-        let number-is = number (held .sheetIs) place few xs l ys split in
         let passed : List LoopPlan = loopsIn (take (length xs) plans) in
         let rest : List LoopPlan = loopsIn (drop (suc (length xs)) plans) in
         let all : loopsIn plans ≡ passed ++ (plan ∷ rest) = loop-among plans (length xs) plan (omega (arith, there (held .sheetIs) place few xs l ys split, plans-length ps rs)) plan-here in
-        let n : length before ≡ length passed = sym (loops-before-plans ps rs (length xs)) in
-        let more = length-append passed (plan ∷ rest) in
-        let listed = length-map (passed ++ (plan ∷ rest)) (λ (p : LoopPlan). p .limit) in
-        ap (limitAt limits) (number-is ∙ n)
-        ∙ ap (λ (b : List ℕ). limitAt b (length passed)) (held .limitsAre ∙ ap (λ (p : List LoopPlan). storedIn (held .limitsBefore) (map (λ q. q .limit) p)) all)
-        ∙ limit-number (held .limitsBefore) (map (λ q. q .limit) (passed ++ (plan ∷ rest))) (length passed) (omega arith) (omega (arith, n, small (held .sheetIs) place few xs l ys split))
-        ∙ ap (λ (b : List ℕ). getD b (length passed) 0) (map-append (λ q. q .limit) passed (plan ∷ rest))
-        ∙ getD-at (map (λ q. q .limit) passed) (plan .limit) (map (λ q. q .limit) rest) 0 (length passed) (length-map passed (λ q. q .limit))
+        let at : loopAt rows (length xs) ≡ length passed = number (held .sheetIs) place few xs l ys split ∙ sym (loops-before-plans ps rs (length xs)) in
+        let stored : LoopPlan → ℕ = λ p. numberOf (p .class) (p .height) in
+        record {
+          before = held .limitsBefore;
+          numbers = map stored (passed ++ (plan ∷ rest));
+          limitsAre = held .limitsAre ∙ ap (λ (p : List LoopPlan). storedIn (held .limitsBefore) (map stored p)) all;
+          within = omega (arith, at, length-append passed (plan ∷ rest), length-map (passed ++ (plan ∷ rest)) stored);
+          below = omega (arith, number (held .sheetIs) place few xs l ys split, small (held .sheetIs) place few xs l ys split);
+          valueIs = ap₂ (λ (n : ℕ) (b : List ℕ). getD b n 0) at (map-append stored passed (plan ∷ rest))
+              ∙ getD-at (map stored passed) (stored plan) (map stored rest) 0 (length passed) (length-map passed stored);
+        }
+
+    pub plan-limit : limitAt limits (loopAt rows (length xs)) ≡ limitOf class (height (tree ys))
+    plan-limit = limit-at class (height (tree ys)) plan-number (omega (arith, limit-below ps xs l ys (place-here (held .sheetIs) place few xs (loopRecord l) ys split)))
+
+    pub plan-ranked : rankedAt limits (loopAt rows (length xs)) ≡ isRanked class
+    plan-ranked = ranked-at class (height (tree ys)) plan-number
+
+    plan-class : classBy (limitAt limits (loopAt rows (length xs))) (rankedAt limits (loopAt rows (length xs))) ≡ class
+    plan-class = ap₂ classBy plan-limit plan-ranked ∙ class-of-limit class (height (tree ys))
 
     -- a closed loop has no reason
     reason-by-class : {found : Option Reason} → found ≡ reasonOf ps l (tree ys) (es .ranges) (sheetLength xs) →
-        reasonBy (limitAt limits (loopAt rows (length xs))) found ≡ reasonOf ps l (tree ys) (es .ranges) (sheetLength xs)
-    unfolding loopClass limitOf reasonBy
+        reasonBy class found ≡ reasonOf ps l (tree ys) (es .ranges) (sheetLength xs)
+    unfolding loopClass reasonBy
     reason-by-class {found} e =
-        ap (λ (n : ℕ). reasonBy n found) plan-limit
-        ∙ go (closed ps l (tree ys) (es .ranges)) (λ t. closed-without-reason ps l (tree ys) (es .ranges) (sheetLength xs) .1 (true→T _ t))
+        go (closed ps l (tree ys) (es .ranges)) (λ t. closed-without-reason ps l (tree ys) (es .ranges) (sheetLength xs) .1 (true→T _ t))
+        (ranked ps l (tree ys) (es .ranges))
       where
-        go : (c : Bool) → (c ≡ true → reasonOf ps l (tree ys) (es .ranges) (sheetLength xs) ≡ none) →
-            reasonBy (limitOf (cond c closedClass walkedClass) (height (tree ys))) found ≡ reasonOf ps l (tree ys) (es .ranges) (sheetLength xs)
-        go true none-there = sym (none-there refl)
-        go false none-there = e
+        go : (c : Bool) → (c ≡ true → reasonOf ps l (tree ys) (es .ranges) (sheetLength xs) ≡ none) → (r : Bool) →
+            reasonBy (cond c closedClass (cond r rankedClass walkedClass)) found ≡ reasonOf ps l (tree ys) (es .ranges) (sheetLength xs)
+        go true none-there r = sym (none-there refl)
+        go false none-there true = e
+        go false none-there false = e
 
     -- its report is that of the sheet's loop
     report-of-loop : SmallParameters ps → reportAt rows differences facts limits (length xs) ≡ reportOf ps l (tree ys) (es .ranges) (sheetLength xs) ∷ []
     unfolding reportAt roleNumber roleOf roleOfKind kind loopFacts
     report-of-loop sized =
         let here = held .sheetIs in
-        let class = loopClass ps l (tree ys) (es .ranges) in
         rw (role-here here place few xs (loopRecord l) ys split)
         (λ t. record {
           offset = offset-here here place few xs (loopRecord l) ys split t;
-          class = (ap classBy plan-limit ∙ class-of-limit class (height (tree ys))) t;
+          class = plan-class t;
           ceiling = loop-ceiling here place few xs l ys split t;
-          reason = reason-by-class (reason-read here place few sized xs l ys split) t;
+          reason = (ap (λ (c : LoopClass). reasonBy c (reasonAt rows differences facts (length xs))) plan-class
+              ∙ reason-by-class (reason-read here place few sized xs l ys split)) t;
         } ∷ [])
 
   -- of a plan, the report of each record is that of the sheet's record

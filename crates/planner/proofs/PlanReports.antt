@@ -1,6 +1,6 @@
 -- The reports of a sheet's records, one after another, are those of the sheet's loops; so is the loop that refusal 6 falls on.
 use mathlib.Core.List.{_++_, List, [], append-assoc, append-nil, _∷_}
-use mathlib.Core.Path.{ap, refl, sym, _∙_, _≡_}
+use mathlib.Core.Path.{ap, refl, subst, sym, _∙_, _≡_}
 use Prim.Native.Nat.{_+_, ℕ, _≤_}
 use native.Mathlib.Omega.{arith}
 use lib.Dec.{ltb}
@@ -39,7 +39,7 @@ module _ (ps : List ℤ) where
   mutual
     unfolding reportsFrom recordReports opensAfter enclosingAfter loopReports records sheetLength enter
 
-    reports-records : (b : Block) (q : List Record) (at past : ℕ) (os : List Open) (e : Enclosing) → past ≡ at + sheetLength (records b) →
+    pub reports-records : (b : Block) (q : List Record) (at past : ℕ) (os : List Open) (e : Enclosing) → past ≡ at + sheetLength (records b) →
         reportsFrom at os e (records b ++ q) ≡ loopReports ps b (e .ranges) at ++ reportsFrom past os e q
     reports-records empty q at past os e p = ap (λ (n : ℕ). reportsFrom n os e q) (omega arith)
     reports-records (work least most rest) q at past os e p = reports-records rest q (at + recordLength (workRecord least most)) past os e (omega arith)
@@ -101,6 +101,20 @@ ceiling-within ps (x ∷ xs) l ys at os e w =
     let rs : List Record = xs ++ (loopRecord l ∷ ys) in
     let others : List LoopReport = reportsFrom ps (at + recordLength x) (opensAfter os x) (enclosingAfter ps os e x) rs in
     ceiling-within ps xs l ys (at + recordLength x) (opensAfter os x) (enclosingAfter ps os e x) (within-append (recordReports ps at e x rs) others w .1)
+
+-- nor is that of any loop inside it
+pub inside-within : (ps : List ℤ) (xs : List Record) (l : Loop) (b : Block) (q : List Record) (at : ℕ) (os : List Open) (e : Enclosing) →
+    WithinCeiling (reportsFrom ps at os e (xs ++ (loopRecord l ∷ (records b ++ q)))) →
+    (offset : ℕ) × WithinCeiling (loopReports ps b (innerRanges ps l (enclosingThrough ps os e xs .ranges)) offset)
+unfolding reportsFrom recordReports WithinCeiling enclosingThrough enclosingAfter enter opensAfter
+inside-within ps [] l b q at os e w =
+    let start : ℕ = at + recordLength (loopRecord l) in
+    let all = subst WithinCeiling (reports-records ps b q start (start + sheetLength (records b)) (openLoop ∷ os) (enter ps l e) refl) (w .1) in
+    (start, within-append (loopReports ps b (innerRanges ps l (e .ranges)) start) (reportsFrom ps (start + sheetLength (records b)) (openLoop ∷ os) (enter ps l e) q) all .0)
+inside-within ps (x ∷ xs) l b q at os e w =
+    let rs : List Record = xs ++ (loopRecord l ∷ (records b ++ q)) in
+    let others : List LoopReport = reportsFrom ps (at + recordLength x) (opensAfter os x) (enclosingAfter ps os e x) rs in
+    inside-within ps xs l b q (at + recordLength x) (opensAfter os x) (enclosingAfter ps os e x) (within-append (recordReports ps at e x rs) others w .1)
 
 -- ---- refusal 6
 

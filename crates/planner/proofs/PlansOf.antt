@@ -1,7 +1,7 @@
--- Each loop's plan, by the records before it and after it: its facts, and the limit of its class and height.
+-- Each loop's plan, by the records before it and after it: its facts, its class and its height.
 use mathlib.Core.List.{_++_, List, [], _∷_}
 use mathlib.Core.Option.{Option, none, some}
-use mathlib.Core.Path.{ap, refl, sym, _∙_, _≡_}
+use mathlib.Core.Path.{ap, ap₂, refl, sym, _∙_, _≡_}
 use Prim.Native.Nat.{_+_, _<_, suc, zero, ℕ, _≤_}
 use native.Mathlib.Omega.{arith}
 use lib.ListN.{drop, getD, length, take}
@@ -20,9 +20,9 @@ use Rattle.loops.specs.Enclosing.{Enclosing, enclosingAfter, enter, loopsAround
 use Rattle.loops.specs.Facts.{LoopFacts, factsAt, factsFrom, loopFacts, loopsIn, sheetFacts}
 use Rattle.loops.proofs.Facts.{facts-after, facts-length}
 use Rattle.loops.proofs.Enclosings.{nothing-open, open-loops-through}
-use Rattle.planner.specs.Closing.{LoopPlan, limitAmong, limitOf, planAt, plansFrom}
+use Rattle.planner.specs.Closing.{LoopPlan, classAmong, heightAbove, limitOf, planAt, plansFrom}
 use Rattle.planner.specs.Plan.{sheetPlans}
-use Rattle.planner.proofs.Limits.{limit-class, limit-small}
+use Rattle.planner.proofs.Limits.{class-among, height-among, limit-small}
 
 plans-none : (rs : List Record) → plansFrom rs [] ≡ []
 unfolding plansFrom
@@ -81,7 +81,7 @@ module _ (ps : List ℤ) where
 
   -- of loop l, before the records ys, where os and the loops e are open
   unfoldable pub definedPlan : Loop → List Record → List Open → Enclosing → LoopPlan
-  definedPlan l ys os e = record { facts = loopFacts ps os e l; limit = limitOf (loopClass ps l (tree ys) (e .ranges)) (height (tree ys)) }
+  definedPlan l ys os e = record { facts = loopFacts ps os e l; class = loopClass ps l (tree ys) (e .ranges); height = height (tree ys) }
 
   -- of a sheet in place, each loop's plan is the defined one
   pub loop-plan : (xs : List Record) (l : Loop) (ys : List Record) → InPlace [] (xs ++ (loopRecord l ∷ ys)) →
@@ -94,19 +94,20 @@ module _ (ps : List ℤ) where
       let found = loop-body l ys os (in-place-through xs (loopRecord l ∷ ys) [] h) in
       let body : Block = found .body in
       let q : List Record = found .following in
-      let limit : limitAmong (loopDepth os) (take (recordsInside zero ys) (factsFrom ps (openLoop ∷ os) (enter ps l e) ys))
-      ≡ limitOf (loopClass ps l (tree ys) (e .ranges)) (height (tree ys)) =
-      ap (λ rs. limitAmong (loopDepth os) (take (recordsInside zero rs) (factsFrom ps (openLoop ∷ os) (enter ps l e) rs))) (found .split)
-      ∙ limit-class ps l body os e q (open-loops-through ps xs [] nothingOpen nothing-open)
-      ∙ ap (λ b. limitOf (loopClass ps l b (e .ranges)) (height b)) (sym (ap tree (found .split) ∙ tree-before-end body q)) in
+      let same : body ≡ tree ys = sym (ap tree (found .split) ∙ tree-before-end body q) in
+      let inside : List Record → List (Option LoopFacts) = λ rs. take (recordsInside zero rs) (factsFrom ps (openLoop ∷ os) (enter ps l e) rs) in
+      let class : classAmong (loopDepth os) (inside ys) ≡ loopClass ps l (tree ys) (e .ranges) =
+      ap (λ rs. classAmong (loopDepth os) (inside rs)) (found .split)
+      ∙ class-among ps l body os e q (open-loops-through ps xs [] nothingOpen nothing-open) ∙ ap (λ b. loopClass ps l b (e .ranges)) same in
+      let high : heightAbove (loopDepth os) (inside ys) ≡ height (tree ys) =
+      ap (λ rs. heightAbove (loopDepth os) (inside rs)) (found .split) ∙ height-among ps l body os e q ∙ ap height same in
       getD-from (length xs) (plansFrom (xs ++ (loopRecord l ∷ ys)) fs) none
       ∙ ap (λ plans. getD plans 0 none) (plans-after xs (loopRecord l ∷ ys) fs ∙ ap (plansFrom (loopRecord l ∷ ys)) (facts-after ps xs (loopRecord l ∷ ys) [] nothingOpen))
-      ∙ ap {B = Option LoopPlan} (λ n. some (record { facts = loopFacts ps os e l; limit = n })) limit
+      ∙ ap₂ {C = Option LoopPlan} (λ c n. some (record { facts = loopFacts ps os e l; class = c; height = n })) class high
 
   -- its limit is small: with d loops around a loop, at most depthLimit - d
   pub limit-below : (xs : List Record) (l : Loop) (ys : List Record) → InPlace [] (xs ++ (loopRecord l ∷ ys)) →
-      definedPlan l ys (opensThrough [] xs) (loopsAround ps xs) .limit + loopDepth (opensThrough [] xs) ≤ depthLimit
-  unfolding definedPlan
+      limitOf (loopClass ps l (tree ys) (loopsAround ps xs .ranges)) (height (tree ys)) + loopDepth (opensThrough [] xs) ≤ depthLimit
   limit-below xs l ys h =
       let os : List Open = opensThrough [] xs in
       let here = in-place-through xs (loopRecord l ∷ ys) [] h in

@@ -1,5 +1,5 @@
--- The tests of a loop K inside a loop for closing, on the numbers that are stored of it, and the search over the loops K.
-use mathlib.Core.Bool.{Bool, cond, false, not, true, _||_}
+-- The tests of a loop K inside a loop for closing and ranking, on the numbers that are stored of it, and the search over the loops K.
+use mathlib.Core.Bool.{Bool, cond, false, not, or-assoc, or-false, true, _||_}
 use mathlib.Core.List.{List, [], _∷_}
 use mathlib.Core.Option.{Option, none, some}
 use mathlib.Core.Path.{ap, ap₂, refl, subst, sym, _∙_, _≡_}
@@ -9,15 +9,16 @@ use native.Mathlib.Omega.{arith}
 use native.Mathlib.Nat.{mod-eq-of-lt, zero-mod}
 use borrow.Author.Tests.{eq-eqb, le-ltb, lt-ltb, ne-eqb}
 use lib.ListN.{drop, drop-of-length-le, getD, length, take}
-use lib.Dec.{eqb}
+use lib.Dec.{eqb, ltb}
 use lib.Seq.{drop-cons}
 use lib.IntN.{natAbs, negsuc, pos, ℤ}
 use Rattle.whole.specs.Integer.{floorRemainder, divides}
 use Rattle.meaning.specs.Limits.{indexFactors, depthLimit}
-use Rattle.layout.specs.Loops.{choiceDepthAt, enoughAt, pushWordAt, strideAt, wordOf}
+use Rattle.layout.specs.Loops.{choiceDepthAt, enoughAt, limitNumber, pushWordAt, rankDepthAt, strideAt, wordOf}
 use Rattle.layout.specs.Rows.{depthAt, endAt, loopAt, roleAt, roleNumber}
 use Rattle.planner.specs.Known.{KnownFacts, KnownInside}
-use Rattle.planner.specs.Closing.{heightAbove, limitAmong, prevents, somePrevents, someUneven, unevenAt, wordSize}
+use Rattle.planner.specs.Closing.{barsClosing, barsRanking, classAmong, heightAbove, isRanked, limitOf, numberAmong, numberOf, prevents, somePrevents, someUneven, unevenAt, wordSize}
+use Rattle.meaning.specs.Closed.{closedClass, rankedClass, walkedClass}
 use Rattle.meaning.proofs.Logic.{true-is-not-false}
 use Rattle.loops.specs.Facts.{LoopFacts}
 
@@ -85,23 +86,35 @@ module _ {differences facts : List ℕ} {j : ℕ} {f : LoopFacts} (known : Known
 
   -- ---- the three tests
 
-  module _ {depth choice : ℕ} (choiceIs : choice ≡ choiceDepthAt facts j) where
-    pub prevents-choice : depth < choice → true ≡ prevents depth f
+  module _ {depth rank : ℕ} (rankIs : rank ≡ rankDepthAt facts j) where
+    pub prevents-choice : depth < rank → true ≡ prevents (barsRanking f) depth f
     unfolding prevents
-    prevents-choice h = rw (lt-ltb depth (f .choiceDepth) (omega (arith, choiceIs, known .choiceIs)))
+    prevents-choice h = rw (lt-ltb depth (f .rankDepth) (omega (arith, rankIs, known .rankIs)))
 
-    module _ (above : choice ≤ depth) {enough : Bool} (enoughIs : enough ≡ enoughAt facts j) where
-      prevents-after : prevents depth f ≡ not enough || someUneven (f .stride) (drop depth (f .pushes))
+    module _ (above : rank ≤ depth) {enough : Bool} (enoughIs : enough ≡ enoughAt facts j) where
+      prevents-after : prevents (barsRanking f) depth f ≡ not enough || someUneven (f .stride) (drop depth (f .pushes))
       unfolding prevents
       prevents-after =
           ap₂ (λ (a b : Bool). a || not b || someUneven (f .stride) (drop depth (f .pushes)))
-          (le-ltb depth (f .choiceDepth) (omega (arith, choiceIs, known .choiceIs))) (sym (enoughIs ∙ known .enoughIs))
+          (le-ltb depth (f .rankDepth) (omega (arith, rankIs, known .rankIs))) (sym (enoughIs ∙ known .enoughIs))
 
-      pub prevents-short : enough ≡ false → true ≡ prevents depth f
+      pub prevents-short : enough ≡ false → true ≡ prevents (barsRanking f) depth f
       prevents-short e = sym (prevents-after ∙ ap (λ (b : Bool). not b || someUneven (f .stride) (drop depth (f .pushes))) e)
 
-      pub prevents-uneven : enough ≡ true → {uneven : Bool} → uneven ≡ someUneven (f .stride) (drop depth (f .pushes)) → uneven ≡ prevents depth f
+      pub prevents-uneven : enough ≡ true → {uneven : Bool} → uneven ≡ someUneven (f .stride) (drop depth (f .pushes)) → uneven ≡ prevents (barsRanking f) depth f
       prevents-uneven e u = u ∙ sym (prevents-after ∙ ap (λ (b : Bool). not b || someUneven (f .stride) (drop depth (f .pushes))) e)
+
+-- where K does not prevent ranking, only a choice prevents closing
+by-choice : (depth : ℕ) (f : LoopFacts) → prevents (barsRanking f) depth f ≡ false → prevents (barsClosing f) depth f ≡ ltb depth (f .choiceDepth)
+unfolding prevents
+by-choice depth f e = go (ltb depth (f .rankDepth)) (not (f .enough)) (someUneven (f .stride) (drop depth (f .pushes))) e (ltb depth (f .choiceDepth))
+  where
+    go : (a b u : Bool) → a || b || u ≡ false → (c : Bool) → c || b || u ≡ c
+    go true b u h c = true-is-not-false h
+    go false true u h c = true-is-not-false h
+    go false false true h c = true-is-not-false h
+    go false false false h true = refl
+    go false false false h false = refl
 
 -- ---- the search over the loops M
 
@@ -126,50 +139,71 @@ higher deepest depth d fd h deepest2 e m =
 abbrev pub inside : List (Option LoopFacts) → ℕ → ℕ → List (Option LoopFacts)
 inside fs end i = take (end - i) (drop i fs)
 
-pub record Limiting (rows differences facts : List ℕ) (number depth end deepest i : ℕ) : Type 0 where
+-- what is known of all loops inside, once those before the ones left are passed
+pub record Passed (depth : ℕ) (all left : List (Option LoopFacts)) (deepest : ℕ) (ranked : Bool) : Type 0 where
+  pub ranking : somePrevents barsRanking depth all ≡ somePrevents barsRanking depth left
+  pub closing : somePrevents barsClosing depth all ≡ ranked || somePrevents barsClosing depth left
+  pub height : heightAbove depth all ≡ max (deepest - depth) (heightAbove depth left)
+
+pub record Limiting (rows differences facts : List ℕ) (number depth end deepest : ℕ) (ranked : Bool) (i : ℕ) : Type 0 where
   pub depthIs : depth ≡ depthAt rows number
   pub endIs : end ≡ endAt rows number
   pub past : number < i
   pub deep : depth ≤ deepest
   pub low : deepest ≤ depthLimit
   pub rest : (fs : List (Option LoopFacts)) → KnownInside rows differences facts number fs →
-      (somePrevents depth (inside fs end (number + 1)) ≡ somePrevents depth (inside fs end i))
-      × (heightAbove depth (inside fs end (number + 1)) ≡ max (deepest - depth) (heightAbove depth (inside fs end i)))
+      Passed depth (inside fs end (number + 1)) (inside fs end i) deepest ranked
 
-abbrev limitThere : List ℕ → ℕ → List (Option LoopFacts) → ℕ
-limitThere rows number fs = limitAmong (depthAt rows number) (take (endAt rows number - (number + 1)) (drop (number + 1) fs))
+abbrev numberThere : List ℕ → ℕ → List (Option LoopFacts) → ℕ
+numberThere rows number fs = numberAmong (depthAt rows number) (take (endAt rows number - (number + 1)) (drop (number + 1) fs))
 
 depth-below : (rows : List ℕ) (n : ℕ) → depthAt rows n ≤ depthLimit
 depth-below rows n = omega arith
 
 pub limiting-start : (rows differences facts : List ℕ) (number depth end : ℕ) → depth ≡ depthAt rows number → end ≡ endAt rows number →
-    Limiting rows differences facts number depth end depth (number + 1)
+    Limiting rows differences facts number depth end depth false (number + 1)
 limiting-start rows differences facts number depth end d e = record {
   depthIs = d;
   endIs = e;
   past = omega arith;
   deep = omega arith;
   low = omega (arith, depth-below rows number);
-  rest = λ fs known. (refl, omega arith);
+  rest = λ fs known. record { ranking = refl; closing = refl; height = omega arith };
 }
 
-module _ {rows differences facts : List ℕ} {number depth end deepest i : ℕ} (g : Limiting rows differences facts number depth end deepest i) where
-  -- the limit, from what is found of the loops inside
-  limit-of : (fs : List (Option LoopFacts)) (b : Bool) → somePrevents depth (inside fs end (number + 1)) ≡ b →
-      cond b zero (suc (heightAbove depth (inside fs end (number + 1)))) ≡ limitThere rows number fs
-  unfolding limitAmong
-  limit-of fs b e =
-      sym (ap (λ (c : Bool). cond c zero (suc (heightAbove depth (inside fs end (number + 1))))) e)
-      ∙ ap₂ (λ (d n : ℕ). limitAmong d (take (n - (number + 1)) (drop (number + 1) fs))) (g .depthIs) (g .endIs)
+number-walked : (height : ℕ) → numberOf walkedClass height ≡ 0
+unfolding numberOf isRanked limitOf limitNumber
+number-walked height = refl
 
-  pub limiting-done : end ≤ i → (fs : List (Option LoopFacts)) → KnownInside rows differences facts number fs → deepest - depth + 1 ≡ limitThere rows number fs
+-- the number that is stored where nothing prevents ranking
+number-summed : (ranked : Bool) (height : ℕ) → limitNumber ranked (suc height) ≡ numberOf (cond ranked rankedClass closedClass) height
+unfolding numberOf isRanked limitOf
+number-summed true height = refl
+number-summed false height = refl
+
+module _ {rows differences facts : List ℕ} {number depth end deepest : ℕ} {ranked : Bool} {i : ℕ}
+    (g : Limiting rows differences facts number depth end deepest ranked i) where
+  -- the number, from what is found of the loops inside
+  number-of : (fs : List (Option LoopFacts)) (a b : Bool) → somePrevents barsRanking depth (inside fs end (number + 1)) ≡ a →
+      somePrevents barsClosing depth (inside fs end (number + 1)) ≡ b →
+      numberOf (cond a walkedClass (cond b rankedClass closedClass)) (heightAbove depth (inside fs end (number + 1))) ≡ numberThere rows number fs
+  unfolding numberAmong classAmong
+  number-of fs a b e f =
+      sym (ap₂ (λ (x y : Bool). numberOf (cond x walkedClass (cond y rankedClass closedClass)) (heightAbove depth (inside fs end (number + 1)))) e f)
+      ∙ ap₂ (λ (d n : ℕ). numberAmong d (take (n - (number + 1)) (drop (number + 1) fs))) (g .depthIs) (g .endIs)
+
+  pub limiting-done : end ≤ i → {stored : ℕ} → stored ≡ limitNumber ranked (deepest - depth + 1) →
+      (fs : List (Option LoopFacts)) → KnownInside rows differences facts number fs → stored ≡ numberThere rows number fs
   unfolding somePrevents heightAbove
-  limiting-done h fs known =
+  limiting-done h storedIs fs known =
       let r = g .rest fs known in
       let none-left : inside fs end i ≡ [] = ap (λ (n : ℕ). take n (drop i fs)) (let e : end - i ≡ 0 = omega arith in e) in
-      let height = r .1 ∙ ap (λ l. max (deepest - depth) (heightAbove depth l)) none-left in
-      (let e : deepest - depth + 1 ≡ suc (heightAbove depth (inside fs end (number + 1))) = omega (arith, height) in e)
-      ∙ limit-of fs false (r .0 ∙ ap (somePrevents depth) none-left)
+      let height = r .height ∙ ap (λ l. max (deepest - depth) (heightAbove depth l)) none-left in
+      storedIs
+      ∙ ap (limitNumber ranked) (let e : deepest - depth + 1 ≡ suc (heightAbove depth (inside fs end (number + 1))) = omega (arith, height) in e)
+      ∙ number-summed ranked (heightAbove depth (inside fs end (number + 1)))
+      ∙ number-of fs false ranked (r .ranking ∙ ap (somePrevents barsRanking depth) none-left)
+      (r .closing ∙ ap (λ l. ranked || somePrevents barsClosing depth l) none-left ∙ or-false ranked)
 
   module _ (more : i < end) {role : ℕ} (roleIs : role ≡ roleAt rows i) where
     module _ (fs : List (Option LoopFacts)) (known : KnownInside rows differences facts number fs) where
@@ -195,7 +229,7 @@ module _ {rows differences facts : List ℕ} {number depth end deepest i : ℕ} 
           go none e = absurd (known .others i (g .past) within e (sym roleIs ∙ y ∙ (unfold roleNumber in refl)))
           go (some f) e = (f, e)
 
-    pub limiting-skip : (role ≡ 1 → ⊥) → Limiting rows differences facts number depth end deepest (i + 1)
+    pub limiting-skip : (role ≡ 1 → ⊥) → Limiting rows differences facts number depth end deepest ranked (i + 1)
     unfolding somePrevents heightAbove
     limiting-skip n = record {
       depthIs = g .depthIs;
@@ -206,42 +240,66 @@ module _ {rows differences facts : List ℕ} {number depth end deepest i : ℕ} 
       rest = λ fs known.
           let r = g .rest fs known in
           let e = first fs known ∙ ap (λ (o : Option LoopFacts). o ∷ inside fs end (i + 1)) (no-loop fs known n) in
-          (r .0 ∙ ap (somePrevents depth) e, r .1 ∙ ap (λ l. max (deepest - depth) (heightAbove depth l)) e);
+          record {
+            ranking = r .ranking ∙ ap (somePrevents barsRanking depth) e;
+            closing = r .closing ∙ ap (λ l. ranked || somePrevents barsClosing depth l) e;
+            height = r .height ∙ ap (λ l. max (deepest - depth) (heightAbove depth l)) e;
+          };
     }
 
-    module _ (y : role ≡ 1) {j : ℕ} (jIs : j ≡ loopAt rows i) {b : Bool} (bIs : (f : LoopFacts) → KnownFacts differences facts j f → b ≡ prevents depth f) where
-      b-known : (fs : List (Option LoopFacts)) (known : KnownInside rows differences facts number fs) → b ≡ prevents depth (a-loop fs known y .0)
-      b-known fs known =
-          let f : LoopFacts = a-loop fs known y .0 in
-          bIs f (subst (λ (n : ℕ). KnownFacts differences facts n f) (sym jIs) (known .loops i f (g .past) (a-loop fs known y .1) .1 .1))
+    module _ (y : role ≡ 1) {j : ℕ} (jIs : j ≡ loopAt rows i) {b : Bool}
+        (bIs : (f : LoopFacts) → KnownFacts differences facts j f → b ≡ prevents (barsRanking f) depth f) where
+      module _ (fs : List (Option LoopFacts)) (known : KnownInside rows differences facts number fs) where
+        abbrev this : LoopFacts
+        this = a-loop fs known y .0
 
-      all-prevent : (fs : List (Option LoopFacts)) → KnownInside rows differences facts number fs →
-          somePrevents depth (inside fs end (number + 1)) ≡ b || somePrevents depth (inside fs end (i + 1))
-      unfolding somePrevents
-      all-prevent fs known =
-          g .rest fs known .0 ∙ ap (somePrevents depth) (first fs known ∙ ap (λ (o : Option LoopFacts). o ∷ inside fs end (i + 1)) (a-loop fs known y .1))
-          ∙ ap (λ (c : Bool). c || somePrevents depth (inside fs end (i + 1))) (sym (b-known fs known))
+        known-this : KnownFacts differences facts j this
+        known-this = subst (λ (n : ℕ). KnownFacts differences facts n this) (sym jIs) (known .loops i this (g .past) (a-loop fs known y .1) .1 .1)
 
-      pub limiting-prevented : b ≡ true → (fs : List (Option LoopFacts)) → KnownInside rows differences facts number fs → 0 ≡ limitThere rows number fs
-      limiting-prevented t fs known = limit-of fs true (all-prevent fs known ∙ ap (λ (c : Bool). c || somePrevents depth (inside fs end (i + 1))) t)
+        left : inside fs end i ≡ some this ∷ inside fs end (i + 1)
+        left = first fs known ∙ ap (λ (o : Option LoopFacts). o ∷ inside fs end (i + 1)) (a-loop fs known y .1)
 
-      pub limiting-next : b ≡ false → {d deepest2 : ℕ} → d ≡ depthAt rows i → deepest2 ≡ max deepest d →
-          Limiting rows differences facts number depth end deepest2 (i + 1)
-      unfolding heightAbove
-      limiting-next t {d} {deepest2} dIs m = record {
-        depthIs = g .depthIs;
-        endIs = g .endIs;
-        past = omega (arith, g .past);
-        deep = omega (arith, g .deep);
-        low = omega (arith, g .low, depth-below rows i);
-        rest = λ fs known.
-            let r = g .rest fs known in
-            let f = a-loop fs known y in
-            let e = first fs known ∙ ap (λ (o : Option LoopFacts). o ∷ inside fs end (i + 1)) (f .1) in
-            let fd : d ≡ f .0 .depth = dIs ∙ known .loops i (f .0) (g .past) (f .1) .1 .0 in
-            let h : ℕ = heightAbove depth (inside fs end (i + 1)) in
-            let height = r .1 ∙ ap (λ l. max (deepest - depth) (heightAbove depth l)) e in (
-              all-prevent fs known ∙ ap (λ (c : Bool). c || somePrevents depth (inside fs end (i + 1))) t,
-              height ∙ higher deepest depth d (f .0 .depth) h deepest2 fd m,
-            );
-      }
+        all-prevent : somePrevents barsRanking depth (inside fs end (number + 1)) ≡ b || somePrevents barsRanking depth (inside fs end (i + 1))
+        unfolding somePrevents
+        all-prevent =
+            g .rest fs known .ranking ∙ ap (somePrevents barsRanking depth) left
+            ∙ ap (λ (c : Bool). c || somePrevents barsRanking depth (inside fs end (i + 1))) (sym (bIs this known-this))
+
+      pub limiting-prevented : b ≡ true → (fs : List (Option LoopFacts)) → KnownInside rows differences facts number fs → 0 ≡ numberThere rows number fs
+      limiting-prevented t fs known =
+          sym (number-walked (heightAbove depth (inside fs end (number + 1))))
+          ∙ number-of fs true (somePrevents barsClosing depth (inside fs end (number + 1)))
+          (all-prevent fs known ∙ ap (λ (c : Bool). c || somePrevents barsRanking depth (inside fs end (i + 1))) t) refl
+
+      module _ (t : b ≡ false) {ranked2 : Bool} (rankedIs : ranked2 ≡ ranked || ltb depth (choiceDepthAt facts j)) where
+        all-bar : (fs : List (Option LoopFacts)) → KnownInside rows differences facts number fs →
+            somePrevents barsClosing depth (inside fs end (number + 1)) ≡ ranked2 || somePrevents barsClosing depth (inside fs end (i + 1))
+        unfolding somePrevents
+        all-bar fs known =
+            let f : LoopFacts = this fs known in
+            let others : Bool = somePrevents barsClosing depth (inside fs end (i + 1)) in
+            let held = known-this fs known in
+            g .rest fs known .closing ∙ ap (λ l. ranked || somePrevents barsClosing depth l) (left fs known)
+            ∙ ap (λ (c : Bool). ranked || (c || others)) (by-choice depth f (sym (bIs f held) ∙ t) ∙ ap (ltb depth) (sym (held .choiceIs)))
+            ∙ sym (or-assoc ranked (ltb depth (choiceDepthAt facts j)) others) ∙ ap (λ (c : Bool). c || others) (sym rankedIs)
+
+        pub limiting-next : {d deepest2 : ℕ} → d ≡ depthAt rows i → deepest2 ≡ max deepest d →
+            Limiting rows differences facts number depth end deepest2 ranked2 (i + 1)
+        unfolding heightAbove
+        limiting-next {d} {deepest2} dIs m = record {
+          depthIs = g .depthIs;
+          endIs = g .endIs;
+          past = omega (arith, g .past);
+          deep = omega (arith, g .deep);
+          low = omega (arith, g .low, depth-below rows i);
+          rest = λ fs known.
+              let f : LoopFacts = this fs known in
+              let fd : d ≡ f .depth = dIs ∙ known .loops i f (g .past) (a-loop fs known y .1) .1 .0 in
+              let h : ℕ = heightAbove depth (inside fs end (i + 1)) in
+              let high = g .rest fs known .height ∙ ap (λ l. max (deepest - depth) (heightAbove depth l)) (left fs known) in
+              record {
+                ranking = all-prevent fs known ∙ ap (λ (c : Bool). c || somePrevents barsRanking depth (inside fs end (i + 1))) t;
+                closing = all-bar fs known;
+                height = high ∙ higher deepest depth d (f .depth) h deepest2 fd m;
+              };
+        }

@@ -1,6 +1,6 @@
--- Which loops are closed, from the facts of the loops K inside a loop with `depth` loops around it; how many trips such a loop visits.
+-- Which loops are closed, ranked or walked, from the facts of the loops K inside a loop with `depth` loops around it; how many trips such a loop visits.
 use mathlib.Core.List.{List, [], _∷_}
-use mathlib.Core.Bool.{Bool, false, not, cond, _||_}
+use mathlib.Core.Bool.{Bool, true, false, not, cond, _||_}
 use mathlib.Core.Option.{Option, none, some}
 use Prim.Native.Nat.{ℕ, suc, _-_, _%_, _^_, max, zero}
 use lib.IntN.{ℤ}
@@ -8,8 +8,8 @@ use lib.Dec.{ltb, eqb}
 use lib.ListN.{take, drop}
 use Rattle.whole.specs.Integer.{divides}
 use Rattle.meaning.specs.Record.{Record}
-use Rattle.meaning.specs.Closed.{LoopClass, closedClass, walkedClass}
-use Rattle.layout.specs.Loops.{strideAt, pushWordAt}
+use Rattle.meaning.specs.Closed.{LoopClass, closedClass, rankedClass, walkedClass}
+use Rattle.layout.specs.Loops.{strideAt, pushWordAt, limitNumber}
 use Rattle.nest.specs.Walk.{recordsInside}
 use Rattle.loops.specs.Facts.{LoopFacts}
 
@@ -27,15 +27,27 @@ unfoldable pub someUneven : ℕ → List ℤ → Bool
 someUneven stride [] = false
 someUneven stride (p ∷ pushes) = not (divides stride p) || someUneven stride pushes
 
--- K keeps the loop from being closed: a choice inside the loop holds K; or K's D may be smaller than closing asks; or K's stride does not divide the
--- push of that loop or of one between
-unfoldable pub prevents : ℕ → LoopFacts → Bool
-prevents depth f = ltb depth (f .choiceDepth) || not (f .enough) || someUneven (f .stride) (drop depth (f .pushes))
+-- K keeps the loop from being closed, or from being ranked, where choices around K bar that to so many loops: the loop is one of these; or K's D may be
+-- smaller than closing asks; or K's stride does not divide the push of that loop or of one between
+unfoldable pub prevents : ℕ → ℕ → LoopFacts → Bool
+prevents barred depth f = ltb depth barred || not (f .enough) || someUneven (f .stride) (drop depth (f .pushes))
 
-unfoldable pub somePrevents : ℕ → List (Option LoopFacts) → Bool
-somePrevents depth [] = false
-somePrevents depth (none ∷ fs) = somePrevents depth fs
-somePrevents depth (some f ∷ fs) = prevents depth f || somePrevents depth fs
+-- some K does
+unfoldable pub somePrevents : (LoopFacts → ℕ) → ℕ → List (Option LoopFacts) → Bool
+somePrevents barred depth [] = false
+somePrevents barred depth (none ∷ fs) = somePrevents barred depth fs
+somePrevents barred depth (some f ∷ fs) = prevents (barred f) depth f || somePrevents barred depth fs
+
+-- to how many loops the choices around K bar closing, and to how many ranking
+abbrev pub barsClosing : LoopFacts → ℕ
+barsClosing f = f .choiceDepth
+
+abbrev pub barsRanking : LoopFacts → ℕ
+barsRanking f = f .rankDepth
+
+-- the loop's class; what prevents ranking prevents closing
+unfoldable pub classAmong : ℕ → List (Option LoopFacts) → LoopClass
+classAmong depth fs = cond (somePrevents barsRanking depth fs) walkedClass (cond (somePrevents barsClosing depth fs) rankedClass closedClass)
 
 -- by how much the deepest K is deeper than the loop; 0 if there is none
 unfoldable pub heightAbove : ℕ → List (Option LoopFacts) → ℕ
@@ -43,29 +55,41 @@ heightAbove depth [] = zero
 heightAbove depth (none ∷ fs) = heightAbove depth fs
 heightAbove depth (some f ∷ fs) = max (f .depth - depth) (heightAbove depth fs)
 
--- how many trips the loop visits at most, where it is closed; 0 where it is walked
-unfoldable pub limitAmong : ℕ → List (Option LoopFacts) → ℕ
-limitAmong depth fs = cond (somePrevents depth fs) zero (suc (heightAbove depth fs))
-
--- the limit of a loop of this class and height
+-- how many trips a loop of this class and height visits at most, where the rest may be summed; 0 where it is walked
 unfoldable pub limitOf : LoopClass → ℕ → ℕ
 limitOf closedClass height = suc height
+limitOf rankedClass height = suc height
 limitOf walkedClass height = zero
 
--- the class that a limit stands for
-unfoldable pub classBy : ℕ → LoopClass
-classBy zero = walkedClass
-classBy (suc n) = closedClass
+unfoldable pub isRanked : LoopClass → Bool
+isRanked closedClass = false
+isRanked rankedClass = true
+isRanked walkedClass = false
 
--- what a plan has of one loop: its facts and its limit
+-- the number that is stored of a loop of this class and height
+unfoldable pub numberOf : LoopClass → ℕ → ℕ
+numberOf class height = limitNumber (isRanked class) (limitOf class height)
+
+-- the number that is stored of the loop
+unfoldable pub numberAmong : ℕ → List (Option LoopFacts) → ℕ
+numberAmong depth fs = numberOf (classAmong depth fs) (heightAbove depth fs)
+
+-- the class of a loop with this limit, by whether it is ranked
+unfoldable pub classBy : ℕ → Bool → LoopClass
+classBy zero ranked = walkedClass
+classBy (suc n) true = rankedClass
+classBy (suc n) false = closedClass
+
+-- what a plan has of one loop
 pub record LoopPlan : Type 0 where
   pub facts : LoopFacts
-  pub limit : ℕ
+  pub class : LoopClass
+  pub height : ℕ
 
 -- from a record's facts and those of the records inside it
 unfoldable pub planAt : Option LoopFacts → List (Option LoopFacts) → Option LoopPlan
 planAt none inside = none
-planAt (some f) inside = some (record { facts = f; limit = limitAmong (f .depth) inside })
+planAt (some f) inside = some (record { facts = f; class = classAmong (f .depth) inside; height = heightAbove (f .depth) inside })
 
 -- from the records and their facts
 unfoldable pub plansFrom : List Record → List (Option LoopFacts) → List (Option LoopPlan)

@@ -8,7 +8,7 @@ use lib.ListN.{length, getD}
 use Rattle.meaning.specs.Limits.{indexFactors}
 use Rattle.meaning.specs.Record.{Loop, Record, loopRecord}
 use Rattle.layout.specs.Rows.{roleNumber, loopRole, roleAt, endAt, depthAt, loopAt}
-use Rattle.layout.specs.Loops.{wordOf, strideAt, pushWordAt, choiceDepthAt, enoughAt}
+use Rattle.layout.specs.Loops.{wordOf, strideAt, pushWordAt, choiceDepthAt, rankDepthAt, enoughAt}
 use Rattle.layout.specs.Numbers.{storedIn}
 use Rattle.sheet.specs.Sheets.{recordsOf}
 use Rattle.nest.specs.Known.{RowsHeld}
@@ -22,6 +22,7 @@ pub record KnownFacts (differences facts : List ℕ) (j : ℕ) (f : LoopFacts) :
   pub strideIs : strideAt differences j ≡ f .stride
   pub pushesAre : (m : ℕ) → m < indexFactors → pushWordAt differences j m ≡ wordOf (getD (f .pushes) m (pos zero))
   pub choiceIs : choiceDepthAt facts j ≡ f .choiceDepth
+  pub rankIs : rankDepthAt facts j ≡ f .rankDepth
   pub enoughIs : enoughAt facts j ≡ f .enough
   pub moves : 0 < f .stride
   pub few : length (f .pushes) ≤ indexFactors

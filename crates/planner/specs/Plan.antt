@@ -9,11 +9,11 @@ use Rattle.meaning.specs.Reader.{Result, ok, refused, andThen}
 use Rattle.meaning.specs.Answer.{accepted}
 use Rattle.nest.specs.Rows.{rowsStored}
 use Rattle.loops.specs.Facts.{factsStored, loopsIn, sheetFacts, wordsStored}
-use Rattle.planner.specs.Closing.{LoopPlan, plansFrom}
+use Rattle.planner.specs.Closing.{LoopPlan, numberOf, plansFrom}
 
 -- the numbers that are stored
 unfoldable pub limitsStored : List LoopPlan → List ℕ
-limitsStored ps = map (λ p. p .limit) ps
+limitsStored ps = map (λ p. numberOf (p .class) (p .height)) ps
 
 module _ (parameters : List ℤ) where
   -- of a sheet's records

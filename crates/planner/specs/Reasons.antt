@@ -50,6 +50,6 @@ module _ (rows : List ℕ) where
     unfoldable pub loopTestsInside : ℕ → List Test
     loopTestsInside n = testsFrom (loopTestsAt (depthAt rows n)) (suc n) (endAt rows n - suc n)
 
-    -- why the loop is walked that is the record with this number; what the remainder cuts off is in no plan
+    -- why the loop is not closed that is the record with this number; what the remainder cuts off is in no plan
     unfoldable pub reasonAt : ℕ → Option Reason
     reasonAt number = let n : ℕ = number % recordLimit in firstFailing (choiceTestsInside n ++ loopTestsInside n)

@@ -2,13 +2,13 @@
 use mathlib.Core.List.{List, [], _∷_}
 use mathlib.Core.Bool.{cond}
 use mathlib.Core.Option.{Option, none}
-use Prim.Native.Nat.{ℕ, zero, suc}
+use Prim.Native.Nat.{ℕ}
 use lib.Dec.{eqb}
-use Rattle.meaning.specs.Closed.{LoopClass, closedClass, walkedClass}
+use Rattle.meaning.specs.Closed.{LoopClass, closedClass, rankedClass, walkedClass}
 use Rattle.meaning.specs.Reason.{Reason}
 use Rattle.reasons.specs.View.{foundIn}
 use Rattle.layout.specs.Rows.{roleNumber, loopRole, roleAt, loopAt, offsetAt}
-use Rattle.layout.specs.Loops.{ceilingAt, limitAt}
+use Rattle.layout.specs.Loops.{ceilingAt, limitAt, rankedAt}
 use Rattle.planner.specs.declared.report.Class.{Class}
 use Rattle.planner.specs.declared.report.Report.{Report}
 use Rattle.planner.specs.declared.report.Class.the-variants as class
@@ -21,6 +21,7 @@ use Rattle.meaning.specs.Report.{LoopReport}
 -- the code's class and report as the meaning's
 abbrev pub classIn : Class → LoopClass
 classIn class.Closed = closedClass
+classIn class.Ranked = rankedClass
 classIn class.Walked = walkedClass
 
 abbrev pub loopReportIn : Code.LoopReport → LoopReport
@@ -30,19 +31,20 @@ abbrev pub reportIn : Report → List LoopReport
 reportIn (report.OfLoop r) = loopReportIn r ∷ []
 reportIn report.Nothing = []
 
--- the reason of a loop with this limit, where one is found; a closed loop has none
-unfoldable pub reasonBy : ℕ → Option Reason → Option Reason
-reasonBy zero found = found
-reasonBy (suc n) found = none
+-- the reason of a loop of this class, where one is found; a closed loop has none
+unfoldable pub reasonBy : LoopClass → Option Reason → Option Reason
+reasonBy closedClass found = none
+reasonBy rankedClass found = found
+reasonBy walkedClass found = found
 
--- of the record with the number n: a loop's offset, whether it is closed or walked, its ceiling, why it is walked
+-- of the record with the number n: a loop's offset, its class, its ceiling, why it is not closed
 unfoldable pub reportAt : List ℕ → List ℕ → List ℕ → List ℕ → ℕ → List LoopReport
 reportAt rows differences facts limits n =
-    let limit : ℕ = limitAt limits (loopAt rows n) in
+    let class : LoopClass = classBy (limitAt limits (loopAt rows n)) (rankedAt limits (loopAt rows n)) in
     cond (eqb (roleAt rows n) (roleNumber loopRole))
     (record {
       offset = offsetAt rows n;
-      class = classBy limit;
+      class = class;
       ceiling = ceilingAt facts (loopAt rows n);
-      reason = reasonBy limit (reasonAt rows differences facts n);
+      reason = reasonBy class (reasonAt rows differences facts n);
     } ∷ []) []

@@ -1,17 +1,20 @@
-// Closed or walked: each loop against the loops inside it.
+// Closed, ranked or walked: each loop against the loops inside it.
 ghost use mathlib.Core.Path.{_≡_};
 ghost use mathlib.Core.List.{List};
+ghost use mathlib.Core.Bool.{_||_};
 ghost use mathlib.Core.Option.{Option};
 ghost use Prim.Native.Nat.{ℕ, _+_, _-_, _^_, _<_, max};
 ghost use lib.IntN.{ℤ};
+ghost use lib.Dec.{ltb};
 ghost use lib.ListN.{take, drop};
 ghost use Rattle.layout.specs.Numbers.{storedIn};
+ghost use Rattle.layout.specs.Loops.{choiceDepthAt};
 ghost use Rattle.layout.specs.Rows.{endAt, depthAt};
 ghost use Rattle.meaning.specs.Limits.{indexFactors};
 ghost use Rattle.sheet.specs.Sheets.{recordsOf};
 ghost use Rattle.loops.specs.Facts.{LoopFacts};
 ghost use Rattle.planner.specs.Closing as C;
-ghost use Rattle.planner.specs.Closing.{wordSize, unevenAt, someUneven, limitAmong};
+ghost use Rattle.planner.specs.Closing.{wordSize, unevenAt, someUneven, barsRanking, numberAmong};
 ghost use Rattle.loops.specs.Facts.{loopsIn};
 ghost use Rattle.planner.specs.Plan.{limitsStored, sheetPlans};
 ghost use Rattle.planner.specs.Known.{KnownFacts, KnownInside, Surveyed};
@@ -23,9 +26,10 @@ use layout::differences::stride_at;
 use layout::facts::Facts;
 use layout::facts::choice_depth_at;
 use layout::facts::enough_at;
+use layout::facts::rank_depth_at;
 use layout::limits::Limits;
+use layout::limits::limit_number;
 use layout::limits::put_limit;
-use layout::narrow;
 use layout::rows::LOOP;
 use layout::rows::Rows;
 use layout::rows::depth_at;
@@ -78,11 +82,11 @@ fn uneven(differences: &Differences, loop_number: usize, depth: usize) -> bool
     false
 }
 
-// Whether loop K keeps a loop with `depth` loops around it from being closed.
+// Whether loop K keeps a loop with `depth` loops around it from being ranked, and so from being closed.
 fn prevents(differences: &Differences, facts: &Facts, loop_number: usize, depth: usize) -> bool
-    ensures { λ r. ⌜ ((f : LoopFacts) → KnownFacts (now (differences .entry)) (now (facts .entry)) «loop_number» f → r ≡ C.prevents depth f) ⌝ }
+    ensures { λ r. ⌜ ((f : LoopFacts) → KnownFacts (now (differences .entry)) (now (facts .entry)) «loop_number» f → r ≡ C.prevents (barsRanking f) depth f) ⌝ }
 {
-    if depth < choice_depth_at(facts, loop_number) {
+    if depth < rank_depth_at(facts, loop_number) {
         return true;
     }
     if enough_at(facts, loop_number) {
@@ -91,28 +95,41 @@ fn prevents(differences: &Differences, facts: &Facts, loop_number: usize, depth:
     true
 }
 
-// How many trips a loop visits at most where it is closed; 0 where it is walked.
-fn limit(rows: &Rows, differences: &Differences, facts: &Facts, number: usize) -> usize
+// Whether closing is barred to a loop with `depth` loops around it by a choice around K, or was barred before.
+fn barred(before: bool, facts: &Facts, loop_number: usize, depth: usize) -> bool
+    ensures { λ r. ⌜ r ≡ before || ltb depth (choiceDepthAt (now (facts .entry)) «loop_number») ⌝ }
+{
+    if before {
+        return true;
+    }
+    depth < choice_depth_at(facts, loop_number)
+}
+
+// The number that is stored of a loop: how many trips it visits at most, and whether it is ranked; 0 where it is walked.
+fn limit(rows: &Rows, differences: &Differences, facts: &Facts, number: usize) -> u16
     requires { ⌜ number < 2 ^ 16 ⌝ }
     ensures { λ r. ⌜ ((fs : List (Option LoopFacts)) → KnownInside (now (rows .entry)) (now (differences .entry)) (now (facts .entry)) number fs →
-        r ≡ limitAmong (depthAt (now (rows .entry)) number) (take (endAt (now (rows .entry)) number - (number + 1)) (drop (number + 1) fs))) ⌝ }
+        r ≡ numberAmong (depthAt (now (rows .entry)) number) (take (endAt (now (rows .entry)) number - (number + 1)) (drop (number + 1) fs))) ⌝ }
 {
     let depth = depth_at(rows, number);
     let end = end_at(rows, number);
     let mut deepest = depth;
+    let mut ranked = false;
     let mut i = number + 1;
     while i < end {
         if role_at(rows, i) != LOOP {
             i += 1;
             continue;
         }
-        if prevents(differences, facts, loop_at(rows, i), depth) {
+        let k = loop_at(rows, i);
+        if prevents(differences, facts, k, depth) {
             return 0;
         }
+        ranked = barred(ranked, facts, k, depth);
         deepest = larger(deepest, depth_at(rows, i));
         i += 1;
     }
-    deepest - depth + 1
+    limit_number(deepest - depth + 1, ranked)
 }
 
 // Stores the limits of all loops.
@@ -134,7 +151,7 @@ pub(crate) fn put_limits(
             continue;
         }
         let n = limit(rows, differences, facts, number);
-        put_limit(limits, loop_at(rows, number), narrow(n));
+        put_limit(limits, loop_at(rows, number), n);
         number += 1;
     }
 }

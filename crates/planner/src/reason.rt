@@ -1,4 +1,4 @@
-// Why a loop of a plan is walked: the first test for closing that fails, in document 02's order.
+// Why a loop of a plan is not closed: the first test for closing that fails, in document 02's order.
 ghost use mathlib.Core.Path.{_≡_};
 ghost use mathlib.Core.Bool.{_&&_};
 ghost use mathlib.Core.List.{List};
@@ -132,7 +132,7 @@ fn first_loop(rows: &Rows, differences: &Differences, facts: &Facts, number: usi
     found
 }
 
-// Why the loop with this record number is walked; nothing of a closed one.
+// Why the loop with this record number is not closed; nothing of a closed one.
 pub fn reason_of(rows: &Rows, differences: &Differences, facts: &Facts, number: usize) -> Found
     ensures found { λ r. ⌜ foundIn r ≡ reasonAt (now (rows .entry)) (now (differences .entry)) (now (facts .entry)) number ⌝ }
     ensures reason { λ r. ⌜ ((sheet : List ℕ) (parameters : List ℤ) (xs : List Record) (l : Loop) (ys : List Record) →

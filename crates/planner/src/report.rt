@@ -1,4 +1,4 @@
-// What is said of each loop of a plan: its offset, whether it is closed or walked, its ceiling, why it is walked.
+// What is said of each loop of a plan: its offset, its class, its ceiling, why it is not closed.
 ghost use mathlib.Core.Path.{_≡_};
 ghost use Rattle.planner.specs.Closing.{classBy};
 ghost use Rattle.planner.specs.Reports.{classIn, reasonBy, reportIn, reportAt};
@@ -10,6 +10,7 @@ use layout::facts::Facts;
 use layout::facts::ceiling_at;
 use layout::limits::Limits;
 use layout::limits::limit_at;
+use layout::limits::ranked_at;
 use layout::rows::LOOP;
 use layout::rows::Rows;
 use layout::rows::loop_at;
@@ -19,6 +20,7 @@ use reasons::Found;
 
 pub enum Class {
     Closed,
+    Ranked,
     Walked,
 }
 
@@ -34,28 +36,30 @@ pub enum Report {
     Nothing,
 }
 
-// The class that a limit stands for.
-fn class_by(limit: u64) -> Class
-    ensures { λ r. ⌜ classIn r ≡ classBy limit ⌝ }
+// The class of a loop with this limit, by whether it is ranked.
+fn class_by(limit: u64, ranked: bool) -> Class
+    ensures { λ r. ⌜ classIn r ≡ classBy limit ranked ⌝ }
 {
     if limit == 0 {
-        Class::Walked
-    } else {
-        Class::Closed
+        return Class::Walked;
     }
+    if ranked {
+        return Class::Ranked;
+    }
+    Class::Closed
 }
 
-// Why the loop with this record number and limit is walked. A closed one has no reason, so that none is searched for.
+// Why the loop with this record number and class is not closed. A closed one has no reason, so that none is searched for.
 fn reason_by(
-    limit: u64,
+    class: Class,
     rows: &Rows,
     differences: &Differences,
     facts: &Facts,
     number: usize,
 ) -> Found
-    ensures { λ r. ⌜ foundIn r ≡ reasonBy limit (reasonAt (now (rows .entry)) (now (differences .entry)) (now (facts .entry)) number) ⌝ }
+    ensures { λ r. ⌜ foundIn r ≡ reasonBy (classIn class) (reasonAt (now (rows .entry)) (now (differences .entry)) (now (facts .entry)) number) ⌝ }
 {
-    if limit != 0 {
+    if let Class::Closed = class {
         return Found::Nothing;
     }
     reason_of(rows, differences, facts, number)
@@ -75,9 +79,8 @@ pub fn report_of(
         return Report::Nothing;
     }
     let of_loop = loop_at(rows, number);
-    let limit = limit_at(limits, of_loop);
-    let class = class_by(limit);
-    let reason = reason_by(limit, rows, differences, facts, number);
+    let class = class_by(limit_at(limits, of_loop), ranked_at(limits, of_loop));
+    let reason = reason_by(class, rows, differences, facts, number);
     Report::OfLoop(LoopReport {
         offset: offset_at(rows, number) as u64,
         class: class,

@@ -1,4 +1,4 @@
-// Why a loop is walked (document 02, C-11): the reason, its line, and the reason read back from a line.
+// Why a loop is not closed (document 02, C-11): the reason, its line, and the reason read back from a line.
 pub mod line;
 pub mod reading;
 

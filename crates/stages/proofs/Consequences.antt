@@ -40,7 +40,7 @@ module _ {sheet : List ℕ} {ps : List ℤ} {rs : List Record} (laws : StageLaws
   unfolding structOf
   sums-are n = ap (λ (s : StateParts). s .sums) (laws .inStep n)
 
-  pub open-are : (n : ℕ) → after n .parts ≡ openOf ps (model n .frames)
+  pub open-are : (n : ℕ) → after n .parts ≡ openOf ps (model n .frames) (model n .arms)
   unfolding structOf
   open-are n = ap (λ (s : StateParts). s .parts) (laws .inStep n)
 

@@ -12,25 +12,32 @@ use Rattle.meaning.proofs.Vocabulary.{hex, zeroParameters}
 use Rattle.sheet.specs.Sheets.{recordsIn, recordsOf}
 use Rattle.layout.specs.Numbers.{joined}
 use Rattle.loops.proofs.Sizes.{SmallParameters, sum}
+use Rattle.ranking.specs.Settled.{boundsNumbers, tripNumbers}
 use Rattle.state.specs.States.{StateParts, stateWith}
-use Rattle.state.specs.Open.{counterPart, filled, framePart, keptPart, openParts, partLength}
-use Rattle.stages.specs.Represent.{armNumbers, boundsNumbers, closedNumbers, counterNumbers, frameNumbers, keptNumbers, openOf, structOf, walkedNumbers, walkedSum}
+use Rattle.state.specs.Open.{armPart, counterPart, filled, framePart, keptPart, openParts, partLength}
+use Rattle.stages.specs.Represent.{armNumbers, armTotal, counterNumbers, eachNumbers, frameNumbers, keepsEach, keptArmNumbers, keptNumbers, openOf, structOf, sumNumbers}
 use Rattle.stages.specs.Next.{statesAfter}
 use Rattle.stages.proofs.Laws.{stage-laws}
 
 -- Unfolding this unfolds every definition of the state that stands for one of the definition.
 unfoldable structComputes : Unit {0}
-unfolding computes recordsOf recordsIn boundsNumbers counterNumbers armNumbers walkedSum walkedNumbers closedNumbers frameNumbers keptNumbers openOf structOf filled joined
+unfolding computes recordsOf recordsIn boundsNumbers tripNumbers counterNumbers armNumbers sumNumbers eachNumbers keepsEach armTotal keptArmNumbers frameNumbers keptNumbers
+    openOf structOf filled joined
 structComputes = tt
 
 -- zeros up to a length
 abbrev upTo : ℕ → List ℕ → List ℕ
 upTo n numbers = numbers ++ replicate (n - length numbers) 0
 
--- a state, what is not open left out: where it stands, the sums, the counters, the frames, the kept trips
+-- a state, what is not open left out: where it stands, the sums, the counters, the frames, the kept trips, the kept arms
+abbrev armsWritten : ℕ → List ℕ → List ℕ → List (List ℕ) → List ℕ → List ℕ → StateParts
+armsWritten at sums counters frames kept arms =
+    stateWith at sums
+    (openParts (upTo (partLength counterPart) counters) (upTo (partLength framePart) (joined (λ f. f) frames)) (upTo (partLength keptPart) kept) (upTo (partLength armPart) arms))
+
+-- with no arms kept
 abbrev writtenState : ℕ → List ℕ → List ℕ → List (List ℕ) → List ℕ → StateParts
-writtenState at sums counters frames kept =
-    stateWith at sums (openParts (upTo (partLength counterPart) counters) (upTo (partLength framePart) (joined (λ f. f) frames)) (upTo (partLength keptPart) kept))
+writtenState at sums counters frames kept = armsWritten at sums counters frames kept []
 
 small-zero : SmallParameters zeroParameters
 unfolding SmallParameters sum
@@ -69,8 +76,8 @@ sheetNine = hex "020000000001000000000000000000000900000000000000000402000000000
 pub states-nine :
     (statesAfter sheetNine zeroParameters 0 ≡ writtenState 0 (0 ∷ 0 ∷ 0 ∷ []) [] [] [])
     × (statesAfter sheetNine zeroParameters 1 ≡ writtenState 1 (0 ∷ 0 ∷ 1 ∷ []) (0 ∷ []) ((0 ∷ 0 ∷ 0 ∷ 0 ∷ 0 ∷ []) ∷ []) [])
-    × (statesAfter sheetNine zeroParameters 2 ≡ writtenState 1 (0 ∷ 0 ∷ 2 ∷ []) (1 ∷ []) ((0 ∷ 0 ∷ 0 ∷ 4 ∷ 0 ∷ []) ∷ []) [])
-    × (statesAfter sheetNine zeroParameters 3 ≡ writtenState 3 (0 ∷ 0 ∷ 3 ∷ []) (1 ∷ 0 ∷ []) ((0 ∷ 0 ∷ 0 ∷ 4 ∷ 0 ∷ []) ∷ (0 ∷ 0 ∷ 0 ∷ 0 ∷ 0 ∷ []) ∷ (0 ∷ 0 ∷ 0 ∷ 0 ∷ 0 ∷ []) ∷ []) [])
+    × (statesAfter sheetNine zeroParameters 2 ≡ armsWritten 1 (0 ∷ 0 ∷ 2 ∷ []) (1 ∷ []) ((0 ∷ 0 ∷ 0 ∷ 0 ∷ 0 ∷ []) ∷ []) (0 ∷ 4 ∷ []) (2 ∷ 0 ∷ 0 ∷ 4 ∷ 4 ∷ []))
+    × (statesAfter sheetNine zeroParameters 3 ≡ armsWritten 3 (0 ∷ 0 ∷ 3 ∷ []) (1 ∷ 0 ∷ []) ((0 ∷ 0 ∷ 0 ∷ 0 ∷ 0 ∷ []) ∷ (0 ∷ 0 ∷ 0 ∷ 0 ∷ 0 ∷ []) ∷ (0 ∷ 0 ∷ 0 ∷ 0 ∷ 0 ∷ []) ∷ []) (0 ∷ 4 ∷ []) (2 ∷ 0 ∷ 0 ∷ 4 ∷ 4 ∷ []))
     × (statesAfter sheetNine zeroParameters 4 ≡ writtenState 1 (0 ∷ 0 ∷ 4 ∷ []) (2 ∷ []) ((0 ∷ 0 ∷ 1 ∷ 8 ∷ 0 ∷ []) ∷ []) [])
     × (statesAfter sheetNine zeroParameters 5 ≡ writtenState 3 (0 ∷ 0 ∷ 5 ∷ []) (2 ∷ 0 ∷ []) ((0 ∷ 0 ∷ 1 ∷ 8 ∷ 0 ∷ []) ∷ (0 ∷ 0 ∷ 0 ∷ 0 ∷ 0 ∷ []) ∷ (0 ∷ 0 ∷ 0 ∷ 0 ∷ 0 ∷ []) ∷ []) [])
     × (statesAfter sheetNine zeroParameters 6 ≡ writtenState 1 (0 ∷ 0 ∷ 6 ∷ []) (3 ∷ []) ((0 ∷ 0 ∷ 3 ∷ 12 ∷ 0 ∷ []) ∷ []) [])
@@ -115,7 +122,7 @@ states-nine = (
   after sheetNine refl 21 refl,
 )
 
--- a closed nest in a walked loop, costs and starts
+-- a ranked loop around a closed nest, costs and starts
 abbrev sheetMixed : List ℕ
 sheetMixed = hex "0203000100010000000000000000000002000000000000000004020100020001000000000000000000000300010000000000000200000100010000000000000000000000000001000000000001010002000303050106003c000303"
 
@@ -126,16 +133,16 @@ pub states-mixed :
     × (statesAfter sheetMixed zeroParameters 3 ≡ writtenState 4 (0 ∷ 0 ∷ 3 ∷ []) (0 ∷ 0 ∷ 0 ∷ []) ((3 ∷ 3 ∷ 0 ∷ 0 ∷ 0 ∷ []) ∷ (0 ∷ 0 ∷ 0 ∷ 0 ∷ 0 ∷ []) ∷ (1 ∷ 1 ∷ 0 ∷ 0 ∷ 0 ∷ []) ∷ (0 ∷ 0 ∷ 0 ∷ 0 ∷ 0 ∷ []) ∷ []) [])
     × (statesAfter sheetMixed zeroParameters 4 ≡ writtenState 3 (0 ∷ 0 ∷ 4 ∷ []) (0 ∷ 1 ∷ []) ((3 ∷ 3 ∷ 0 ∷ 0 ∷ 0 ∷ []) ∷ (0 ∷ 0 ∷ 0 ∷ 0 ∷ 0 ∷ []) ∷ (1 ∷ 1 ∷ 0 ∷ 0 ∷ 0 ∷ []) ∷ []) (0 ∷ 0 ∷ 0 ∷ 0 ∷ 0 ∷ 0 ∷ 4 ∷ 5 ∷ []))
     × (statesAfter sheetMixed zeroParameters 5 ≡ writtenState 4 (0 ∷ 0 ∷ 5 ∷ []) (0 ∷ 1 ∷ 0 ∷ []) ((3 ∷ 3 ∷ 0 ∷ 0 ∷ 0 ∷ []) ∷ (0 ∷ 0 ∷ 0 ∷ 0 ∷ 0 ∷ []) ∷ (1 ∷ 1 ∷ 0 ∷ 0 ∷ 0 ∷ []) ∷ (0 ∷ 0 ∷ 0 ∷ 0 ∷ 0 ∷ []) ∷ []) (0 ∷ 0 ∷ 0 ∷ 0 ∷ 0 ∷ 0 ∷ 4 ∷ 5 ∷ []))
-    × (statesAfter sheetMixed zeroParameters 6 ≡ writtenState 1 (0 ∷ 0 ∷ 6 ∷ []) (1 ∷ []) ((3 ∷ 3 ∷ 7 ∷ 61 ∷ 0 ∷ []) ∷ []) [])
-    × (statesAfter sheetMixed zeroParameters 7 ≡ writtenState 3 (0 ∷ 0 ∷ 7 ∷ []) (1 ∷ 0 ∷ []) ((3 ∷ 3 ∷ 7 ∷ 61 ∷ 0 ∷ []) ∷ (0 ∷ 0 ∷ 0 ∷ 0 ∷ 0 ∷ []) ∷ (1 ∷ 1 ∷ 0 ∷ 0 ∷ 0 ∷ []) ∷ []) [])
-    × (statesAfter sheetMixed zeroParameters 8 ≡ writtenState 4 (0 ∷ 0 ∷ 8 ∷ []) (1 ∷ 0 ∷ 0 ∷ []) ((3 ∷ 3 ∷ 7 ∷ 61 ∷ 0 ∷ []) ∷ (0 ∷ 0 ∷ 0 ∷ 0 ∷ 0 ∷ []) ∷ (1 ∷ 1 ∷ 0 ∷ 0 ∷ 0 ∷ []) ∷ (0 ∷ 0 ∷ 0 ∷ 0 ∷ 0 ∷ []) ∷ []) [])
-    × (statesAfter sheetMixed zeroParameters 9 ≡ writtenState 3 (0 ∷ 0 ∷ 9 ∷ []) (1 ∷ 1 ∷ []) ((3 ∷ 3 ∷ 7 ∷ 61 ∷ 0 ∷ []) ∷ (0 ∷ 0 ∷ 0 ∷ 0 ∷ 0 ∷ []) ∷ (1 ∷ 1 ∷ 0 ∷ 0 ∷ 0 ∷ []) ∷ []) (0 ∷ 0 ∷ 0 ∷ 0 ∷ 0 ∷ 0 ∷ 4 ∷ 5 ∷ []))
-    × (statesAfter sheetMixed zeroParameters 10 ≡ writtenState 4 (0 ∷ 0 ∷ 10 ∷ []) (1 ∷ 1 ∷ 0 ∷ []) ((3 ∷ 3 ∷ 7 ∷ 61 ∷ 0 ∷ []) ∷ (0 ∷ 0 ∷ 0 ∷ 0 ∷ 0 ∷ []) ∷ (1 ∷ 1 ∷ 0 ∷ 0 ∷ 0 ∷ []) ∷ (0 ∷ 0 ∷ 0 ∷ 0 ∷ 0 ∷ []) ∷ []) (0 ∷ 0 ∷ 0 ∷ 0 ∷ 0 ∷ 0 ∷ 4 ∷ 5 ∷ []))
-    × (statesAfter sheetMixed zeroParameters 11 ≡ writtenState 1 (0 ∷ 0 ∷ 11 ∷ []) (2 ∷ []) ((3 ∷ 3 ∷ 14 ∷ 122 ∷ 0 ∷ []) ∷ []) [])
-    × (statesAfter sheetMixed zeroParameters 12 ≡ writtenState 3 (0 ∷ 0 ∷ 12 ∷ []) (2 ∷ 0 ∷ []) ((3 ∷ 3 ∷ 14 ∷ 122 ∷ 0 ∷ []) ∷ (0 ∷ 0 ∷ 0 ∷ 0 ∷ 0 ∷ []) ∷ (1 ∷ 1 ∷ 0 ∷ 0 ∷ 0 ∷ []) ∷ []) [])
-    × (statesAfter sheetMixed zeroParameters 13 ≡ writtenState 4 (0 ∷ 0 ∷ 13 ∷ []) (2 ∷ 0 ∷ 0 ∷ []) ((3 ∷ 3 ∷ 14 ∷ 122 ∷ 0 ∷ []) ∷ (0 ∷ 0 ∷ 0 ∷ 0 ∷ 0 ∷ []) ∷ (1 ∷ 1 ∷ 0 ∷ 0 ∷ 0 ∷ []) ∷ (0 ∷ 0 ∷ 0 ∷ 0 ∷ 0 ∷ []) ∷ []) [])
-    × (statesAfter sheetMixed zeroParameters 14 ≡ writtenState 3 (0 ∷ 0 ∷ 14 ∷ []) (2 ∷ 1 ∷ []) ((3 ∷ 3 ∷ 14 ∷ 122 ∷ 0 ∷ []) ∷ (0 ∷ 0 ∷ 0 ∷ 0 ∷ 0 ∷ []) ∷ (1 ∷ 1 ∷ 0 ∷ 0 ∷ 0 ∷ []) ∷ []) (0 ∷ 0 ∷ 0 ∷ 0 ∷ 0 ∷ 0 ∷ 4 ∷ 5 ∷ []))
-    × (statesAfter sheetMixed zeroParameters 15 ≡ writtenState 4 (0 ∷ 0 ∷ 15 ∷ []) (2 ∷ 1 ∷ 0 ∷ []) ((3 ∷ 3 ∷ 14 ∷ 122 ∷ 0 ∷ []) ∷ (0 ∷ 0 ∷ 0 ∷ 0 ∷ 0 ∷ []) ∷ (1 ∷ 1 ∷ 0 ∷ 0 ∷ 0 ∷ []) ∷ (0 ∷ 0 ∷ 0 ∷ 0 ∷ 0 ∷ []) ∷ []) (0 ∷ 0 ∷ 0 ∷ 0 ∷ 0 ∷ 0 ∷ 4 ∷ 5 ∷ []))
+    × (statesAfter sheetMixed zeroParameters 6 ≡ armsWritten 1 (0 ∷ 0 ∷ 6 ∷ []) (1 ∷ []) ((3 ∷ 3 ∷ 0 ∷ 0 ∷ 0 ∷ []) ∷ []) (7 ∷ 61 ∷ []) (2 ∷ 29 ∷ 39 ∷ 6 ∷ 60 ∷ []))
+    × (statesAfter sheetMixed zeroParameters 7 ≡ armsWritten 3 (0 ∷ 0 ∷ 7 ∷ []) (1 ∷ 0 ∷ []) ((3 ∷ 3 ∷ 0 ∷ 0 ∷ 0 ∷ []) ∷ (0 ∷ 0 ∷ 0 ∷ 0 ∷ 0 ∷ []) ∷ (1 ∷ 1 ∷ 0 ∷ 0 ∷ 0 ∷ []) ∷ []) (7 ∷ 61 ∷ []) (2 ∷ 29 ∷ 39 ∷ 6 ∷ 60 ∷ []))
+    × (statesAfter sheetMixed zeroParameters 8 ≡ armsWritten 4 (0 ∷ 0 ∷ 8 ∷ []) (1 ∷ 0 ∷ 0 ∷ []) ((3 ∷ 3 ∷ 0 ∷ 0 ∷ 0 ∷ []) ∷ (0 ∷ 0 ∷ 0 ∷ 0 ∷ 0 ∷ []) ∷ (1 ∷ 1 ∷ 0 ∷ 0 ∷ 0 ∷ []) ∷ (0 ∷ 0 ∷ 0 ∷ 0 ∷ 0 ∷ []) ∷ []) (7 ∷ 61 ∷ []) (2 ∷ 29 ∷ 39 ∷ 6 ∷ 60 ∷ []))
+    × (statesAfter sheetMixed zeroParameters 9 ≡ armsWritten 3 (0 ∷ 0 ∷ 9 ∷ []) (1 ∷ 1 ∷ []) ((3 ∷ 3 ∷ 0 ∷ 0 ∷ 0 ∷ []) ∷ (0 ∷ 0 ∷ 0 ∷ 0 ∷ 0 ∷ []) ∷ (1 ∷ 1 ∷ 0 ∷ 0 ∷ 0 ∷ []) ∷ []) (7 ∷ 61 ∷ 0 ∷ 0 ∷ 0 ∷ 0 ∷ 4 ∷ 5 ∷ []) (2 ∷ 29 ∷ 39 ∷ 6 ∷ 60 ∷ []))
+    × (statesAfter sheetMixed zeroParameters 10 ≡ armsWritten 4 (0 ∷ 0 ∷ 10 ∷ []) (1 ∷ 1 ∷ 0 ∷ []) ((3 ∷ 3 ∷ 0 ∷ 0 ∷ 0 ∷ []) ∷ (0 ∷ 0 ∷ 0 ∷ 0 ∷ 0 ∷ []) ∷ (1 ∷ 1 ∷ 0 ∷ 0 ∷ 0 ∷ []) ∷ (0 ∷ 0 ∷ 0 ∷ 0 ∷ 0 ∷ []) ∷ []) (7 ∷ 61 ∷ 0 ∷ 0 ∷ 0 ∷ 0 ∷ 4 ∷ 5 ∷ []) (2 ∷ 29 ∷ 39 ∷ 6 ∷ 60 ∷ []))
+    × (statesAfter sheetMixed zeroParameters 11 ≡ armsWritten 1 (0 ∷ 0 ∷ 11 ∷ []) (2 ∷ []) ((3 ∷ 3 ∷ 0 ∷ 0 ∷ 0 ∷ []) ∷ []) (7 ∷ 61 ∷ 7 ∷ 61 ∷ []) (4 ∷ 29 ∷ 39 ∷ 6 ∷ 60 ∷ 41 ∷ 56 ∷ 6 ∷ 60 ∷ []))
+    × (statesAfter sheetMixed zeroParameters 12 ≡ armsWritten 3 (0 ∷ 0 ∷ 12 ∷ []) (2 ∷ 0 ∷ []) ((3 ∷ 3 ∷ 0 ∷ 0 ∷ 0 ∷ []) ∷ (0 ∷ 0 ∷ 0 ∷ 0 ∷ 0 ∷ []) ∷ (1 ∷ 1 ∷ 0 ∷ 0 ∷ 0 ∷ []) ∷ []) (7 ∷ 61 ∷ 7 ∷ 61 ∷ []) (4 ∷ 29 ∷ 39 ∷ 6 ∷ 60 ∷ 41 ∷ 56 ∷ 6 ∷ 60 ∷ []))
+    × (statesAfter sheetMixed zeroParameters 13 ≡ armsWritten 4 (0 ∷ 0 ∷ 13 ∷ []) (2 ∷ 0 ∷ 0 ∷ []) ((3 ∷ 3 ∷ 0 ∷ 0 ∷ 0 ∷ []) ∷ (0 ∷ 0 ∷ 0 ∷ 0 ∷ 0 ∷ []) ∷ (1 ∷ 1 ∷ 0 ∷ 0 ∷ 0 ∷ []) ∷ (0 ∷ 0 ∷ 0 ∷ 0 ∷ 0 ∷ []) ∷ []) (7 ∷ 61 ∷ 7 ∷ 61 ∷ []) (4 ∷ 29 ∷ 39 ∷ 6 ∷ 60 ∷ 41 ∷ 56 ∷ 6 ∷ 60 ∷ []))
+    × (statesAfter sheetMixed zeroParameters 14 ≡ armsWritten 3 (0 ∷ 0 ∷ 14 ∷ []) (2 ∷ 1 ∷ []) ((3 ∷ 3 ∷ 0 ∷ 0 ∷ 0 ∷ []) ∷ (0 ∷ 0 ∷ 0 ∷ 0 ∷ 0 ∷ []) ∷ (1 ∷ 1 ∷ 0 ∷ 0 ∷ 0 ∷ []) ∷ []) (7 ∷ 61 ∷ 7 ∷ 61 ∷ 0 ∷ 0 ∷ 4 ∷ 5 ∷ []) (4 ∷ 29 ∷ 39 ∷ 6 ∷ 60 ∷ 41 ∷ 56 ∷ 6 ∷ 60 ∷ []))
+    × (statesAfter sheetMixed zeroParameters 15 ≡ armsWritten 4 (0 ∷ 0 ∷ 15 ∷ []) (2 ∷ 1 ∷ 0 ∷ []) ((3 ∷ 3 ∷ 0 ∷ 0 ∷ 0 ∷ []) ∷ (0 ∷ 0 ∷ 0 ∷ 0 ∷ 0 ∷ []) ∷ (1 ∷ 1 ∷ 0 ∷ 0 ∷ 0 ∷ []) ∷ (0 ∷ 0 ∷ 0 ∷ 0 ∷ 0 ∷ []) ∷ []) (7 ∷ 61 ∷ 7 ∷ 61 ∷ 0 ∷ 0 ∷ 4 ∷ 5 ∷ []) (4 ∷ 29 ∷ 39 ∷ 6 ∷ 60 ∷ 41 ∷ 56 ∷ 6 ∷ 60 ∷ []))
     × (statesAfter sheetMixed zeroParameters 16 ≡ writtenState 11 (24 ∷ 202 ∷ 15 ∷ []) [] [] [])
     × (statesAfter sheetMixed zeroParameters 17 ≡ writtenState 11 (24 ∷ 202 ∷ 15 ∷ []) [] [] [])
 unfolding structComputes

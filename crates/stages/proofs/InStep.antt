@@ -10,7 +10,7 @@ use lib.ListN.{length, length-append}
 use lib.IntN.{ℤ}
 use borrow.Author.Tests.{lt-ltb, le-ltb}
 use Rattle.meaning.specs.Time.{Bounds, bounds, exactly, _⊕_}
-use Rattle.meaning.specs.Stage.{Step, addArm, andOn, choiceFrame, loopFrame, pass, passRecord, state, stateOf, Frame}
+use Rattle.meaning.specs.Stage.{Frame, KeptArms, Step, addArm, andOn, choiceFrame, keepArm, keepsArms, loopFrame, pass, passRecord, stateKeeping, stateOf}
 use Rattle.meaning.specs.Stage as Meaning
 use Rattle.meaning.specs.Record.{Record, choiceRecord, endRecord, kind, loopDepth, loopRecord, nextArmRecord, workRecord}
 use Rattle.meaning.specs.Limits.{depthLimit, recordLimit}
@@ -27,7 +27,8 @@ use Rattle.stages.proofs.PlanLaws.{KnownPlan, loops-count, row-is}
 use Rattle.stages.proofs.Standing.{Opener, Regular, choice-opener, frames-shallow, loop-opener, passageOf, place-is, row-here, struct-at, whole}
 use Rattle.stages.proofs.Places.{Placed, PlacedAt, opensOf, placed-record}
 use Rattle.stages.proofs.Steps.{no-record, no-work, openLoops}
-use Rattle.stages.proofs.PassedRecords.{passed-choice, passed-choice-end, passed-loop, passed-loop-end, passed-next-arm, passed-work}
+use Rattle.stages.proofs.PassedRecords.{passed-choice, passed-choice-end, passed-loop, passed-next-arm, passed-work}
+use Rattle.stages.proofs.PassedTrips.{passed-loop-end}
 
 module _ {ps : List ℤ} {rs : List Record} {rows differences limits : List ℕ} (known : KnownPlan ps rs rows differences limits) where
   abbrev struct : Meaning.State → StateParts
@@ -44,7 +45,7 @@ module _ {ps : List ℤ} {rs : List Record} {rows differences limits : List ℕ}
       let same = does .0 in (
         record {
           adds = subst (StepAddsUp ps (whole known) (definedVisits ps rs)) e (adds-up-pass ps (whole known) (definedVisits ps rs) s (g .adds));
-          place = subst (λ (p : Step). Placed ps rs (stateOf p)) e (unfold pass in placed-record ps rs (known .placed) (s .remaining) (s .current) (s .frames) (s .visits) (g .place));
+          place = subst (λ (p : Step). Placed ps rs (stateOf p)) e (unfold pass in placed-record ps rs (known .placed) (s .remaining) (s .current) (s .frames) (s .arms) (s .visits) (g .place));
           few = omega (arith, g .few);
         },
         does .1,
@@ -66,10 +67,10 @@ module _ {ps : List ℤ} {rs : List Record} {rows differences limits : List ℕ}
   InStepFrom n left = (t : Meaning.State) → length (t .remaining) ≤ n → length (t .remaining) ≤ left → Regular known t → bodyAt left t ≡ passage (Meaning.stage ps t)
 
   -- where no straight work stands
-  module _ (r : Record) (ys : List Record) (c : Bounds) (fs : List Frame) (v : ℕ) (g : Regular known (state (r ∷ ys) c fs v))
+  module _ (r : Record) (ys : List Record) (c : Bounds) (fs : List Frame) (a : KeptArms) (v : ℕ) (g : Regular known (stateKeeping a (r ∷ ys) c fs v))
       (noWork : eqb (roleNumber (roleOf r)) (roleNumber straightRole) ≡ false) where
     abbrev here : Meaning.State
-    here = state (r ∷ ys) c fs v
+    here = stateKeeping a (r ∷ ys) c fs v
 
     abbrev at : ℕ
     at = length (g .place .before)
@@ -80,9 +81,9 @@ module _ {ps : List ℤ} {rs : List Record} {rows differences limits : List ℕ}
 
     works-none : passStraightWork rows (length rs) (struct here) ≡ struct here
     works-none =
-        let stands = struct-at known at (r ∷ ys) c fs v (place-is known (g .place .before) (r ∷ ys) (g .place .split)) in
+        let stands = struct-at known at (r ∷ ys) c fs a v (place-is known (g .place .before) (r ∷ ys) (g .place .split)) in
         let role = ap (λ (n : ℕ). eqb n (roleNumber straightRole)) (row-here known fs (g .place) .roleIs) ∙ noWork in
-        ap (passStraightWork rows (length rs)) stands ∙ no-work ps rows (length rs) at c v fs role ∙ sym stands
+        ap (passStraightWork rows (length rs)) stands ∙ no-work ps rows (length rs) at c v fs a role ∙ sym stands
 
     follows : (b : Bool) → isOfLoop rows at ≡ b → followingAt rows (length rs) (struct here .at) ≡ cond b ofLoop ofChoice
     unfolding followingAt
@@ -113,7 +114,7 @@ module _ {ps : List ℤ} {rs : List Record} {rows differences limits : List ℕ}
 
     -- a choice, a next arm or a choice's end
     choice-in-step : (left : ℕ) → length ys ≤ left → InStepFrom (length ys) left → isOfLoop rows at ≡ false → (t : Meaning.State) → pass ps here ≡ Meaning.going t →
-        openLoops fs ≡ openLoops (t .frames) → passChoice rows (struct here) ≡ struct t → bodyAt (suc left) here ≡ passage (Meaning.stage ps here)
+        openLoops fs ≡ openLoops (t .frames) → passChoice rows limits (struct here) ≡ struct t → bodyAt (suc left) here ≡ passage (Meaning.stage ps here)
     unfolding passFollowing andOn
     choice-in-step left few further isChoice t e depth passed =
         let next = regular-next here t g e in
@@ -135,14 +136,14 @@ module _ {ps : List ℤ} {rs : List Record} {rows differences limits : List ℕ}
       of-loop number endRole role ∙ ap (λ (n : ℕ). eqb n (roleNumber loopRole)) (ap (roleAt rows) (o .found) ∙ row-is known (o .stands) .roleIs)
 
   -- the sheet's end
-  module _ (c : Bounds) (fs : List Frame) (v : ℕ) where
+  module _ (c : Bounds) (fs : List Frame) (a : KeptArms) (v : ℕ) where
     abbrev ended : Meaning.State
-    ended = state [] c fs v
+    ended = stateKeeping a [] c fs v
 
     stays : passStraightWork rows (length rs) (struct ended) ≡ struct ended
     stays =
-        let e = struct-at known (length rs) [] c fs v (let z : length rs - 0 ≡ length rs = omega arith in z) in
-        ap (passStraightWork rows (length rs)) e ∙ no-record ps rows (length rs) (length rs) c v fs (omega arith) ∙ sym e
+        let e = struct-at known (length rs) [] c fs a v (let z : length rs - 0 ≡ length rs = omega arith in z) in
+        ap (passStraightWork rows (length rs)) e ∙ no-record ps rows (length rs) (length rs) c v fs a (omega arith) ∙ sym e
 
     past : ltb (struct ended .at) (length rs) ≡ false
     unfolding structOf
@@ -162,47 +163,47 @@ module _ {ps : List ℤ} {rs : List Record} {rows differences limits : List ℕ}
   same-works (suc left) depth s t e = ap (λ (x : StateParts). follow (followingAt rows (length rs) (x .at)) left depth x) e
 
   -- a stage from where a record stands
-  record-in-step : (left : ℕ) (r : Record) (ys : List Record) (c : Bounds) (fs : List Frame) (v : ℕ) → InStepFrom (length ys) (suc left) → InStepFrom (length ys) left →
-      length ys ≤ left → Regular known (state (r ∷ ys) c fs v) → bodyAt (suc left) (state (r ∷ ys) c fs v) ≡ passage (Meaning.stage ps (state (r ∷ ys) c fs v))
+  record-in-step : (left : ℕ) (r : Record) (ys : List Record) (c : Bounds) (fs : List Frame) (a : KeptArms) (v : ℕ) → InStepFrom (length ys) (suc left) → InStepFrom (length ys) left →
+      length ys ≤ left → Regular known (stateKeeping a (r ∷ ys) c fs v) → bodyAt (suc left) (stateKeeping a (r ∷ ys) c fs v) ≡ passage (Meaning.stage ps (stateKeeping a (r ∷ ys) c fs v))
   unfolding pass passRecord StepAddsUp andOn roleOf roleOfKind kind roleNumber
-  record-in-step left (workRecord least most) ys c fs v further fewer few g =
-      let here : Meaning.State = state (workRecord least most ∷ ys) c fs v in
-      let behind : Meaning.State = state ys (c ⊕ bounds least most) fs v in
-      same-works (suc left) (openLoops fs) (struct here) (struct behind) (passed-work known least most ys c fs v g)
+  record-in-step left (workRecord least most) ys c fs a v further fewer few g =
+      let here : Meaning.State = stateKeeping a (workRecord least most ∷ ys) c fs v in
+      let behind : Meaning.State = stateKeeping a ys (c ⊕ bounds least most) fs v in
+      same-works (suc left) (openLoops fs) (struct here) (struct behind) (passed-work known least most ys c fs a v g)
       ∙ further behind (omega arith) (omega arith) (regular-next here behind g refl .0) ∙ ap passage (sym (stage-unrolls ps here))
-  record-in-step left (loopRecord l) ys c fs v further fewer few g =
-      loop-in-step (loopRecord l) ys c fs v g refl left few fewer (of-loop (length (g .place .before)) loopRole (row-here known fs (g .place) .roleIs)) (passed-loop known l ys c fs v g)
-  record-in-step left choiceRecord ys c fs v further fewer few g =
-      choice-in-step choiceRecord ys c fs v g refl left few fewer (of-loop (length (g .place .before)) choiceRole (row-here known fs (g .place) .roleIs))
-      (state ys (exactly zero) (choiceFrame none c ∷ fs) v) refl (unfold counterNumbers in refl) (passed-choice known ys c fs v g)
-  record-in-step left nextArmRecord ys c [] v further fewer few g = absurd (adds-up-pass ps (whole known) (definedVisits ps rs) (state (nextArmRecord ∷ ys) c [] v) (g .adds))
-  record-in-step left nextArmRecord ys c (loopFrame l body j sums enclosing ∷ fs) v further fewer few g =
-      absurd (adds-up-pass ps (whole known) (definedVisits ps rs) (state (nextArmRecord ∷ ys) c (loopFrame l body j sums enclosing ∷ fs) v) (g .adds))
-  record-in-step left nextArmRecord ys c (choiceFrame arms enclosing ∷ fs) v further fewer few g =
+  record-in-step left (loopRecord l) ys c fs a v further fewer few g =
+      loop-in-step (loopRecord l) ys c fs a v g refl left few fewer (of-loop (length (g .place .before)) loopRole (row-here known fs (g .place) .roleIs)) (passed-loop known l ys c fs a v g)
+  record-in-step left choiceRecord ys c fs a v further fewer few g =
+      choice-in-step choiceRecord ys c fs a v g refl left few fewer (of-loop (length (g .place .before)) choiceRole (row-here known fs (g .place) .roleIs))
+      (stateKeeping a ys (exactly zero) (choiceFrame none c ∷ fs) v) refl (unfold counterNumbers in refl) (passed-choice known ys c fs a v g)
+  record-in-step left nextArmRecord ys c [] a v further fewer few g = absurd (adds-up-pass ps (whole known) (definedVisits ps rs) (stateKeeping a (nextArmRecord ∷ ys) c [] v) (g .adds))
+  record-in-step left nextArmRecord ys c (loopFrame l body j sums enclosing ∷ fs) a v further fewer few g =
+      absurd (adds-up-pass ps (whole known) (definedVisits ps rs) (stateKeeping a (nextArmRecord ∷ ys) c (loopFrame l body j sums enclosing ∷ fs) v) (g .adds))
+  record-in-step left nextArmRecord ys c (choiceFrame arms enclosing ∷ fs) a v further fewer few g =
       let gs : List Frame = choiceFrame arms enclosing ∷ fs in
-      choice-in-step nextArmRecord ys c gs v g refl left few fewer (of-loop (length (g .place .before)) nextArmRole (row-here known gs (g .place) .roleIs))
-      (state ys (exactly zero) (choiceFrame (some (addArm arms c)) enclosing ∷ fs) v) refl (unfold counterNumbers in refl) (passed-next-arm known ys arms enclosing c fs v g)
-  record-in-step left endRecord ys c [] v further fewer few g = absurd (adds-up-pass ps (whole known) (definedVisits ps rs) (state (endRecord ∷ ys) c [] v) (g .adds))
-  record-in-step left endRecord ys c (choiceFrame arms enclosing ∷ fs) v further fewer few g =
+      choice-in-step nextArmRecord ys c gs a v g refl left few fewer (of-loop (length (g .place .before)) nextArmRole (row-here known gs (g .place) .roleIs))
+      (stateKeeping (keepArm (keepsArms ps fs) a c) ys (exactly zero) (choiceFrame (some (addArm arms c)) enclosing ∷ fs) v) refl (unfold counterNumbers in refl) (passed-next-arm known ys arms enclosing c fs a v g)
+  record-in-step left endRecord ys c [] a v further fewer few g = absurd (adds-up-pass ps (whole known) (definedVisits ps rs) (stateKeeping a (endRecord ∷ ys) c [] v) (g .adds))
+  record-in-step left endRecord ys c (choiceFrame arms enclosing ∷ fs) a v further fewer few g =
       let gs : List Frame = choiceFrame arms enclosing ∷ fs in
       let o = choice-opener known fs (g .place) in
-      choice-in-step endRecord ys c gs v g refl left few fewer (of-opener fs (row-here known gs (g .place) .roleIs) (o .1))
-      (state ys (enclosing ⊕ addArm arms c) fs v) refl (unfold counterNumbers in refl) (passed-choice-end known ys arms enclosing c fs v g)
-  record-in-step left endRecord ys c (loopFrame l body j sums enclosing ∷ fs) v further fewer few g =
+      choice-in-step endRecord ys c gs a v g refl left few fewer (of-opener fs (row-here known gs (g .place) .roleIs) (o .1))
+      (stateKeeping (keepArm (keepsArms ps fs) a c) ys (enclosing ⊕ addArm arms c) fs v) refl (unfold counterNumbers in refl) (passed-choice-end known ys arms enclosing c fs a v g)
+  record-in-step left endRecord ys c (loopFrame l body j sums enclosing ∷ fs) a v further fewer few g =
       let gs : List Frame = loopFrame l body j sums enclosing ∷ fs in
-      loop-in-step endRecord ys c gs v g refl left few fewer (of-opener fs (row-here known gs (g .place) .roleIs) (loop-opener known fs (g .place)))
-      (passed-loop-end known ys l body j sums enclosing c fs v g)
+      loop-in-step endRecord ys c gs a v g refl left few fewer (of-opener fs (row-here known gs (g .place) .roleIs) (loop-opener known fs (g .place)))
+      (passed-loop-end known ys l body j sums enclosing c fs a v g)
 
-  in-step-from : (n left : ℕ) (remaining : List Record) (c : Bounds) (fs : List Frame) (v : ℕ) → length remaining ≤ n → length remaining ≤ left →
-      Regular known (state remaining c fs v) → bodyAt left (state remaining c fs v) ≡ passage (Meaning.stage ps (state remaining c fs v))
+  in-step-from : (n left : ℕ) (remaining : List Record) (c : Bounds) (fs : List Frame) (a : KeptArms) (v : ℕ) → length remaining ≤ n → length remaining ≤ left →
+      Regular known (stateKeeping a remaining c fs v) → bodyAt left (stateKeeping a remaining c fs v) ≡ passage (Meaning.stage ps (stateKeeping a remaining c fs v))
   unfolding passageOf
-  in-step-from zero left [] c fs v h k g = end-in-step c fs v left (openLoops fs) ∙ ap passage (sym (stage-at-end ps c fs v))
-  in-step-from zero left (r ∷ ys) c fs v h k g = absurd (omega arith)
-  in-step-from (suc n) left [] c fs v h k g = end-in-step c fs v left (openLoops fs) ∙ ap passage (sym (stage-at-end ps c fs v))
-  in-step-from (suc n) zero (r ∷ ys) c fs v h k g = absurd (omega arith)
-  in-step-from (suc n) (suc left) (r ∷ ys) c fs v h k g =
-      record-in-step left r ys c fs v (λ t few. in-step-from n (suc left) (t .remaining) (t .current) (t .frames) (t .visits) (omega arith))
-      (λ t few. in-step-from n left (t .remaining) (t .current) (t .frames) (t .visits) (omega arith)) (omega arith) g
+  in-step-from zero left [] c fs a v h k g = end-in-step c fs a v left (openLoops fs) ∙ ap passage (sym (stage-at-end ps c fs a v))
+  in-step-from zero left (r ∷ ys) c fs a v h k g = absurd (omega arith)
+  in-step-from (suc n) left [] c fs a v h k g = end-in-step c fs a v left (openLoops fs) ∙ ap passage (sym (stage-at-end ps c fs a v))
+  in-step-from (suc n) zero (r ∷ ys) c fs a v h k g = absurd (omega arith)
+  in-step-from (suc n) (suc left) (r ∷ ys) c fs a v h k g =
+      record-in-step left r ys c fs a v (λ t few. in-step-from n (suc left) (t .remaining) (t .current) (t .frames) (t .arms) (t .visits) (omega arith))
+      (λ t few. in-step-from n left (t .remaining) (t .current) (t .frames) (t .arms) (t .visits) (omega arith)) (omega arith) g
 
   -- the plan says how many loops are open
   depth-here : {r : Record} {ys : List Record} (fs : List Frame) (h : PlacedAt ps rs (r ∷ ys) fs) → depthAt rows (length (h .before)) ≡ openLoops fs
@@ -217,16 +218,16 @@ module _ {ps : List ℤ} {rs : List Record} {rows differences limits : List ℕ}
   stage-in-step s g =
       let count : min (length rs) recordLimit ≡ length rs = omega (arith, known .short) in
       ap (λ (m : ℕ). stageOf (bodyEvaluator rows differences limits m m (depthAt rows (struct s .at)) (struct s))) count
-      ∙ go (s .remaining) (s .current) (s .frames) (s .visits) g
+      ∙ go (s .remaining) (s .current) (s .frames) (s .arms) (s .visits) g
     where
-      go : (remaining : List Record) (c : Bounds) (fs : List Frame) (v : ℕ) → Regular known (state remaining c fs v) →
-          stageOf (body (length rs) (depthAt rows (struct (state remaining c fs v) .at)) (struct (state remaining c fs v)))
-          ≡ stageOf (passage (Meaning.stage ps (state remaining c fs v)))
-      go [] c fs v g = unfold passageOf in
-          ap stageOf (end-in-step c fs v (length rs) (depthAt rows (struct (state [] c fs v) .at)))
-          ∙ ap (λ (p : Step). stageOf (passage p)) (sym (stage-at-end ps c fs v))
-      go (r ∷ ys) c fs v g = unfold structOf in
+      go : (remaining : List Record) (c : Bounds) (fs : List Frame) (a : KeptArms) (v : ℕ) → Regular known (stateKeeping a remaining c fs v) →
+          stageOf (body (length rs) (depthAt rows (struct (stateKeeping a remaining c fs v) .at)) (struct (stateKeeping a remaining c fs v)))
+          ≡ stageOf (passage (Meaning.stage ps (stateKeeping a remaining c fs v)))
+      go [] c fs a v g = unfold passageOf in
+          ap stageOf (end-in-step c fs a v (length rs) (depthAt rows (struct (stateKeeping a [] c fs v) .at)))
+          ∙ ap (λ (p : Step). stageOf (passage p)) (sym (stage-at-end ps c fs a v))
+      go (r ∷ ys) c fs a v g = unfold structOf in
           let fits : length (r ∷ ys) ≤ length rs = omega (arith, ap (λ (xs : List Record). length xs) (g .place .split), length-append (g .place .before) (r ∷ ys)) in
           let depth = ap (depthAt rows) (place-is known (g .place .before) (r ∷ ys) (g .place .split)) ∙ depth-here fs (g .place) in
-          ap (λ (d : ℕ). stageOf (body (length rs) d (struct (state (r ∷ ys) c fs v)))) depth
-          ∙ ap stageOf (in-step-from (length (r ∷ ys)) (length rs) (r ∷ ys) c fs v (omega arith) fits g)
+          ap (λ (d : ℕ). stageOf (body (length rs) d (struct (stateKeeping a (r ∷ ys) c fs v)))) depth
+          ∙ ap stageOf (in-step-from (length (r ∷ ys)) (length rs) (r ∷ ys) c fs a v (omega arith) fits g)

@@ -13,7 +13,7 @@ use Rattle.meaning.specs.Time.{time, Bounds}
 use Rattle.meaning.specs.Record.{Record}
 use Rattle.meaning.specs.Reader.{Result, andThen, ok, read}
 use Rattle.meaning.specs.Demand.{StagesReach}
-use Rattle.meaning.specs.Stage.{State, Step, stages, state, stateOf, visitBegun, visitsBegun}
+use Rattle.meaning.specs.Stage.{State, Step, stages, state, stateOf, tripsKept, visitBegun, visitsBegun}
 use Rattle.meaning.specs.Answer.{accepted, sheetReports}
 use Rattle.meaning.specs.Limits.{figureLimit, recordLimit}
 use Rattle.meaning.specs.Report.{firstOverCeiling}
@@ -29,12 +29,13 @@ use Rattle.layout.specs.Loops.{differencesLength, factsLength, loopLimit}
 use Rattle.layout.specs.Rows.{rowsLength}
 use Rattle.loops.proofs.Sizes.{SmallParameters}
 use Rattle.planner.specs.Plan.{Plan, planOf, planOfRecords}
+use Rattle.ranking.specs.Settled.{boundsNumbers, tripNumbers}
 use Rattle.state.specs.States.{StateParts, blankState, firstState}
 use Rattle.state.specs.Open.{filled, partIn, partsIn}
 use Rattle.state.specs.Sums.{visitsOf}
 use Rattle.stages.specs.Next.{NextStage, nextState, partsOf, stageFor, stageOf, statesAfter, visitCount, visitsBegunBy, stage}
 use Rattle.stages.specs.Laws.{StageLaws, endState, definedVisits}
-use Rattle.stages.specs.Represent.{counterNumbers, frameNumbers, keptNumbers, openOf, structOf}
+use Rattle.stages.specs.Represent.{armTotal, counterNumbers, frameNumbers, keptArmNumbers, keptNumbers, openOf, structOf}
 use Rattle.stages.proofs.PlanLaws.{KnownPlan}
 use Rattle.stages.proofs.Places.{Placed, placed-stages}
 use Rattle.stages.proofs.Standing.{Regular, passageOf}
@@ -132,7 +133,7 @@ module _ (sheet : List ℕ) (ps : List ℤ) (rs : List Record) (small : SmallPar
 
   in-step : (n : ℕ) → statesAfter sheet ps n ≡ structOf ps rs (model n)
   unfolding statesAfter nextState stages
-  in-step zero = unfold firstState blankState partsIn partIn structOf openOf Meaning.firstState counterNumbers frameNumbers keptNumbers filled in
+  in-step zero = unfold firstState blankState partsIn partIn structOf openOf Meaning.firstState counterNumbers frameNumbers keptNumbers keptArmNumbers armTotal tripNumbers boundsNumbers tripsKept filled in
       ap (λ (m : ℕ). partsOf (blankState m 0 0 0)) (let z : 0 ≡ length rs - length rs = omega arith in z)
   in-step (suc n) = ap (λ (s : StateParts). stage sheet ps s .after) (in-step n) ∙ ap (λ (p : NextStage). p .after) (stage-is n) ∙ next-after (Meaning.stage ps (model n))
 
@@ -150,7 +151,7 @@ module _ (sheet : List ℕ) (ps : List ℤ) (rs : List Record) (small : SmallPar
 
   -- the state at the sheet's end
   end-is : structOf ps rs (state [] (time ps (tree rs) []) [] (definedVisits ps rs)) ≡ endState ps rs
-  unfolding structOf openOf endState blankState partsIn partIn counterNumbers frameNumbers keptNumbers filled
+  unfolding structOf openOf endState blankState partsIn partIn counterNumbers frameNumbers keptNumbers keptArmNumbers armTotal tripNumbers boundsNumbers tripsKept filled
   end-is =
       let whole : Bounds = time ps (tree rs) [] in
       ap (λ (m : ℕ). partsOf (blankState m (whole .least) (whole .most) (definedVisits ps rs))) (let z : length rs - 0 ≡ length rs = omega arith in z)

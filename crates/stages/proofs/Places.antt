@@ -6,16 +6,12 @@ use mathlib.Core.Path.{ap, ap₂, refl, subst, sym, _∙_, _≡_}
 use Prim.Native.Nat.{_+_, suc, ℕ, zero}
 use native.Mathlib.Omega.{arith}
 use lib.ListN.{length}
-use lib.Dec.{ltb}
 use lib.IntN.{ℤ}
-use Rattle.meaning.specs.Tree.{empty, loop, records, tree, Block}
+use Rattle.meaning.specs.Tree.{empty, loop, records, Block}
 use Rattle.meaning.specs.Time.{entryCost, exactly, trips, _⊕_, Bounds}
-use Rattle.meaning.specs.Stage.{Frame, State, Step, addArm, afterEnd, choiceFrame, firstState, indexesOf, loopFrame, rangesOf, stateOf}
+use Rattle.meaning.specs.Stage.{Frame, KeptArms, State, Step, addArm, afterEnd, choiceFrame, firstState, indexesOf, loopFrame, stateOf}
 use Rattle.meaning.specs.Stage.{andOn, atEnd, beginsVisit, endTrip, enterLoop, going, pass, passFrom, passRecord, stage, stages, stuck}
 use Rattle.meaning.specs.Record.{Loop, choiceRecord, endRecord, loopRecord, nextArmRecord, openChoice, openLoop, workRecord, Record, Open}
-use Rattle.meaning.specs.Closed.{loopClass, LoopClass}
-use Rattle.meaning.specs.ClosedSum.{addTrip, loopSum}
-use Rattle.meaning.specs.Visits.{visitedTrips}
 use Rattle.meaning.proofs.Accepted.{InPlace}
 use Rattle.meaning.proofs.Trees.{afterEnd-records}
 use Rattle.nest.specs.Walk.{numbersAfter, opensAfter}
@@ -215,41 +211,37 @@ module _ (ps : List ℤ) where
     -- ---- passing keeps states in their place
 
     module _ (placed : InPlace [] rs) where
-      placed-enter : (n : ℕ) (l : Loop) (ys : List Record) (current : Bounds) (fs : List Frame) (v : ℕ) → PlacedAt (loopRecord l ∷ ys) fs →
-          Placed (stateOf (enterLoop ps n l ys current fs v))
+      placed-enter : (n : ℕ) (l : Loop) (ys : List Record) (current : Bounds) (fs : List Frame) (a : KeptArms) (v : ℕ) → PlacedAt (loopRecord l ∷ ys) fs →
+          Placed (stateOf (enterLoop ps n l ys current fs a v))
       unfolding enterLoop stateOf
-      placed-enter zero l ys current fs v h = placed-past l ys fs placed h
-      placed-enter (suc n) l ys current fs v h = placed-loop l ys fs zero [] (current ⊕ exactly (entryCost l (suc n))) h
+      placed-enter zero l ys current fs a v h = placed-past l ys fs placed h
+      placed-enter (suc n) l ys current fs a v h = placed-loop l ys fs zero [] (current ⊕ exactly (entryCost l (suc n))) h
 
-      placed-trip : (b : Bool) (sum : Bounds) (l : Loop) (body : List Record) (counter : ℕ) (old sums : List Bounds) (around : Bounds) (ys : List Record) (fs : List Frame) (v : ℕ) →
-          PlacedAt (endRecord ∷ ys) (loopFrame l body counter old around ∷ fs) → Placed (stateOf (endTrip ps b sum l body counter sums around ys fs v))
+      placed-trip : (more : Bool) (next left : State) → Placed next → Placed left → Placed (stateOf (endTrip more next left))
       unfolding endTrip stateOf
-      placed-trip true sum l body counter old sums around ys fs v h = placed-again ys fs l body counter (suc counter) old sums around h
-      placed-trip false sum l body counter old sums around ys fs v h = placed-left-loop ys fs l body counter old around h
+      placed-trip true next left further behind = further
+      placed-trip false next left further behind = behind
 
-      pub placed-record : (remaining : List Record) (current : Bounds) (fs : List Frame) (v : ℕ) → PlacedAt remaining fs →
-          Placed (stateOf (passRecord ps remaining current fs v))
+      pub placed-record : (remaining : List Record) (current : Bounds) (fs : List Frame) (a : KeptArms) (v : ℕ) → PlacedAt remaining fs →
+          Placed (stateOf (passRecord ps remaining current fs a v))
       unfolding passRecord stateOf opensAfter numbersAfter enclosingAfter
-      placed-record [] current fs v h = h
-      placed-record (workRecord least most ∷ ys) current fs v h = placed-same (workRecord least most) ys fs (λ os e. (refl, refl)) (λ k ns. refl) h
-      placed-record (loopRecord l ∷ ys) current fs v h = placed-enter (trips ps l (indexesOf ps fs)) l ys current fs v h
-      placed-record (choiceRecord ∷ ys) current fs v h = placed-choice ys fs none current h
-      placed-record (nextArmRecord ∷ ys) current [] v h = h
-      placed-record (nextArmRecord ∷ ys) current (loopFrame l body counter visitedSums enclosing ∷ fs) v h = h
-      placed-record (nextArmRecord ∷ ys) current (choiceFrame passedArms enclosing ∷ fs) v h =
+      placed-record [] current fs a v h = h
+      placed-record (workRecord least most ∷ ys) current fs a v h = placed-same (workRecord least most) ys fs (λ os e. (refl, refl)) (λ k ns. refl) h
+      placed-record (loopRecord l ∷ ys) current fs a v h = placed-enter (trips ps l (indexesOf ps fs)) l ys current fs a v h
+      placed-record (choiceRecord ∷ ys) current fs a v h = placed-choice ys fs none current h
+      placed-record (nextArmRecord ∷ ys) current [] a v h = h
+      placed-record (nextArmRecord ∷ ys) current (loopFrame l body counter visitedSums enclosing ∷ fs) a v h = h
+      placed-record (nextArmRecord ∷ ys) current (choiceFrame passedArms enclosing ∷ fs) a v h =
           placed-arm ys fs passedArms (some (addArm passedArms current)) enclosing (placed-same nextArmRecord ys (choiceFrame passedArms enclosing ∷ fs) (λ os e. (refl, refl)) (λ k ns. refl) h)
-      placed-record (endRecord ∷ ys) current [] v h = h
-      placed-record (endRecord ∷ ys) current (choiceFrame passedArms enclosing ∷ fs) v h = placed-left-choice ys fs passedArms enclosing h
-      placed-record (endRecord ∷ ys) current (loopFrame l body counter visitedSums enclosing ∷ fs) v h =
-          let n : ℕ = trips ps l (indexesOf ps fs) in
-          let class : LoopClass = loopClass ps l (tree body) (rangesOf ps fs) in
-          let sums : List Bounds = addTrip class visitedSums (current ⊕ exactly (l .step)) in
-          placed-trip (ltb (suc counter) (visitedTrips ps l (tree body) (rangesOf ps fs) n)) (loopSum class n sums) l body counter visitedSums sums enclosing ys fs v h
+      placed-record (endRecord ∷ ys) current [] a v h = h
+      placed-record (endRecord ∷ ys) current (choiceFrame passedArms enclosing ∷ fs) a v h = placed-left-choice ys fs passedArms enclosing h
+      placed-record (endRecord ∷ ys) current (loopFrame l body counter visitedSums enclosing ∷ fs) a v h =
+          placed-trip _ _ _ (placed-again ys fs l body counter (suc counter) visitedSums _ enclosing h) (placed-left-loop ys fs l body counter visitedSums enclosing h)
 
       placed-from : (left : ℕ) (s : State) → Placed s → Placed (stateOf (passFrom ps left s))
       unfolding passFrom stateOf
       placed-from zero s h = h
-      placed-from (suc left) s h = go (pass ps s) (unfold pass in placed-record (s .remaining) (s .current) (s .frames) (s .visits) h) (λ t. placed-from left t)
+      placed-from (suc left) s h = go (pass ps s) (unfold pass in placed-record (s .remaining) (s .current) (s .frames) (s .arms) (s .visits) h) (λ t. placed-from left t)
         where
           go : (step : Step) → Placed (stateOf step) → ((t : State) → Placed t → Placed (stateOf (passFrom ps left t))) →
               Placed (stateOf (andOn (λ t. passFrom ps left t) step))

@@ -8,12 +8,12 @@ use native.Mathlib.Nat.{mod-eq-of-lt}
 use lib.ListN.{length, length-append}
 use lib.IntN.{ℤ}
 use Rattle.meaning.specs.Time.{Bounds, time}
-use Rattle.meaning.specs.Stage.{Frame, Step, afterEnd, choiceFrame, loopFrame, state, State}
+use Rattle.meaning.specs.Stage.{Frame, KeptArms, Step, afterEnd, choiceFrame, loopFrame, stateKeeping, State}
 use Rattle.meaning.specs.Record.{Loop, strideSize, Record, choiceRecord, endRecord, loopRecord, Open}
 use Rattle.meaning.specs.Limits.{depthLimit, openLimit, recordLimit}
 use Rattle.meaning.specs.Tree.{height, records, tree}
 use Rattle.meaning.specs.Stage as Meaning
-use Rattle.meaning.proofs.AddingUp.{AddsUp, Total, total-at-most}
+use Rattle.meaning.proofs.Levels.{AddsUp, Total, total-at-most}
 use Rattle.meaning.proofs.Accepted.{InPlace, loop-in-range}
 use Rattle.meaning.proofs.Trees.{afterEnd-records, tree-before-end}
 use Rattle.layout.specs.Rows.{afterEndAt, frameAt, openerAt}
@@ -67,14 +67,14 @@ module _ {ps : List ℤ} {rs : List Record} {rows differences limits : List ℕ}
 
   -- ---- what is open fits in 64 bits
 
-  pub total-fits : (fs : List Frame) (tail : List Record) (total : Bounds) (count : ℕ) → Total ps whole (definedVisits ps rs) fs tail total count → Fits total
-  total-fits fs tail total count h =
-      let i = total-at-most ps whole (definedVisits ps rs) (known .ordered) fs tail total count h in
+  pub total-fits : (fs : List Frame) (tail : List Record) (total : Bounds) (count : ℕ) (arms : KeptArms) → Total ps whole (definedVisits ps rs) fs tail total count arms → Fits total
+  total-fits fs tail total count arms h =
+      let i = total-at-most ps whole (definedVisits ps rs) (known .ordered) fs tail total count arms h in
       record { leastFits = omega (arith, i .0, i .1, known .smallMost); mostFits = omega (arith, i .1, known .smallMost) }
 
   pub current-fits : (s : Meaning.State) → AddsUp ps whole (definedVisits ps rs) s → Fits (s .current)
   current-fits s h =
-      let i = total-fits (s .frames) (h .tail) _ _ (h .level) in
+      let i = total-fits (s .frames) (h .tail) _ _ _ (h .level) in
       record { leastFits = omega (arith, i .leastFits); mostFits = omega (arith, i .mostFits) }
 
   -- ---- places
@@ -125,10 +125,10 @@ module _ {ps : List ℤ} {rs : List Record} {rows differences limits : List ℕ}
   pub frame-of : {n : ℕ} {r : Record} {ys : List Record} (fs : List Frame) {ns : List ℕ} → RowIs known n r ys (opensOf fs) ns → length fs < openLimit → frameAt rows n ≡ length fs
   frame-of fs row room = row .frameIs ∙ ap (λ (m : ℕ). m % openLimit) (opens-count fs) ∙ mod-eq-of-lt room
 
-  pub struct-at : (n : ℕ) (remaining : List Record) (c : Bounds) (fs : List Frame) (v : ℕ) → length rs - length remaining ≡ n →
-      structOf ps rs (state remaining c fs v) ≡ standing ps n c v fs
+  pub struct-at : (n : ℕ) (remaining : List Record) (c : Bounds) (fs : List Frame) (a : KeptArms) (v : ℕ) → length rs - length remaining ≡ n →
+      structOf ps rs (stateKeeping a remaining c fs v) ≡ standing ps n c v fs a
   unfolding structOf
-  struct-at n remaining c fs v e = ap (λ (m : ℕ). standing ps m c v fs) e
+  struct-at n remaining c fs a v e = ap (λ (m : ℕ). standing ps m c v fs a) e
 
   -- the row of the record where a state stands
   pub row-here : {r : Record} {ys : List Record} (fs : List Frame) (h : PlacedAt ps rs (r ∷ ys) fs) → RowIs known (length (h .before)) r ys (opensOf fs) (h .numbers)
@@ -142,8 +142,9 @@ module _ {ps : List ℤ} {rs : List Record} {rows differences limits : List ℕ}
     pub outerNumbers : List ℕ
     pub found : openerAt rows n ≡ number
     pub stands : Stands ps rs r following number (opensOf fs) outerNumbers (enclosingOf ps fs)
+    pub framed : Framed ps rs fs outerNumbers
 
-  opener-found : {r : Record} {ys : List Record} {m : ℕ} (n : ℕ) (fs : List Frame) {ns : List ℕ} → Stands ps rs r ys m (opensOf fs) ns (enclosingOf ps fs) →
+  pub opener-found : {r : Record} {ys : List Record} {m : ℕ} (n : ℕ) (fs : List Frame) {ns : List ℕ} → Stands ps rs r ys m (opensOf fs) ns (enclosingOf ps fs) →
       openerAt rows n ≡ (suc m - 1) % recordLimit → openerAt rows n ≡ m
   opener-found {r} {ys} {m} n fs h e =
       let below : m < recordLimit = omega (arith, row-is known h .below, known .short) in
@@ -157,7 +158,7 @@ module _ {ps : List ℤ} {rs : List Record} {rows differences limits : List ℕ}
           (following : List Record) × Opener (length (h .before)) choiceRecord following fs
       go [] framed e = unfold Framed in absurd framed
       go (n ∷ ns) framed e = unfold Framed innermost in
-          (framed .0, record { number = n; outerNumbers = ns; found = opener-found (length (h .before)) fs (framed .1) e; stands = framed .1 })
+          (framed .0, record { number = n; outerNumbers = ns; found = opener-found (length (h .before)) fs (framed .1) e; stands = framed .1; framed = framed .2 })
 
   pub loop-opener : {r : Record} {ys : List Record} {l : Loop} {body : List Record} {j : ℕ} {sums : List Bounds} {enclosing : Bounds} (fs : List Frame)
       (h : PlacedAt ps rs (r ∷ ys) (loopFrame l body j sums enclosing ∷ fs)) → Opener (length (h .before)) (loopRecord l) body fs
@@ -166,7 +167,7 @@ module _ {ps : List ℤ} {rs : List Record} {rows differences limits : List ℕ}
       go : (ns : List ℕ) → Framed ps rs (loopFrame l body j sums enclosing ∷ fs) ns → openerAt rows (length (h .before)) ≡ (innermost ns - 1) % recordLimit →
           Opener (length (h .before)) (loopRecord l) body fs
       go [] framed e = unfold Framed in absurd framed
-      go (n ∷ ns) framed e = unfold Framed innermost in record { number = n; outerNumbers = ns; found = opener-found (length (h .before)) fs (framed .0) e; stands = framed .0 }
+      go (n ∷ ns) framed e = unfold Framed innermost in record { number = n; outerNumbers = ns; found = opener-found (length (h .before)) fs (framed .0) e; stands = framed .0; framed = framed .1 }
 
   -- where the stage goes on after a loop without a trip
   pub place-after : {l : Loop} {ys : List Record} (fs : List Frame) (h : PlacedAt ps rs (loopRecord l ∷ ys) fs) → length rs - length (afterEnd zero ys) ≡ afterEndAt rows (length (h .before))

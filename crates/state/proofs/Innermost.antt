@@ -29,7 +29,7 @@ set-append {A} (x ∷ xs) ys j v =
 pub set-behind : {A : Type 0} (xs ys : List A) (n j : ℕ) (v : A) → n ≡ length xs + j → set (xs ++ ys) n v ≡ xs ++ set ys j v
 set-behind xs ys n j v e = ap (λ (m : ℕ). set (xs ++ ys) m v) e ∙ set-append xs ys j v
 
-pair-behind : (xs ys : List ℕ) (n j least most : ℕ) → n ≡ length xs + j → withPair (xs ++ ys) n least most ≡ xs ++ withPair ys j least most
+pub pair-behind : (xs ys : List ℕ) (n j least most : ℕ) → n ≡ length xs + j → withPair (xs ++ ys) n least most ≡ xs ++ withPair ys j least most
 unfolding withPair
 pair-behind xs ys n j least most e =
     ap (λ (zs : List ℕ). set zs (n + 1) most) (set-behind xs ys n j least e) ∙ set-behind xs (set ys j least) (n + 1) (j + 1) most (omega arith)
@@ -54,7 +54,7 @@ blanked-behind xs ys from (suc n) e h =
 
 -- ---- lists filled with zeros
 
-joined-zeros : (m n k : ℕ) → k ≡ m + n → zeros m ++ zeros n ≡ zeros k
+pub joined-zeros : (m n k : ℕ) → k ≡ m + n → zeros m ++ zeros n ≡ zeros k
 joined-zeros m n k e = replicate-append-replicate m n 0 ∙ ap zeros (sym e)
 
 pub filled-length : (n : ℕ) (xs : List ℕ) → length (filled n xs) ≡ n

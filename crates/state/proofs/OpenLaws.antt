@@ -7,34 +7,39 @@ use native.Mathlib.Omega.{arith}
 use native.Mathlib.Numerals.{add-one}
 use lib.ListN.{getD, set, take, drop}
 use lib.Seq.{drop-set-add, drop-set-lt, take-set-le, take-set-lt, getD-take, getD-drop}
-use Rattle.state.specs.Open.{Part, counterPart, framePart, keptPart, partLength, partStart, OpenParts, openParts, partIn, partsIn}
-use Rattle.state.specs.Open.{withCounters, withFrames, withKept, withPair, blanked}
+use Rattle.state.specs.Open.{Part, counterPart, framePart, keptPart, armPart, partLength, partStart, OpenParts, openParts, partIn, partsIn}
+use Rattle.state.specs.Open.{withCounters, withFrames, withKept, withArms, withPair, blanked}
 
 -- one part, and other numbers in its place
 abbrev pub partOf : Part → OpenParts → List ℕ
 partOf counterPart parts = parts .counters
 partOf framePart parts = parts .frames
 partOf keptPart parts = parts .kept
+partOf armPart parts = parts .arms
 
 abbrev pub withPart : Part → OpenParts → List ℕ → OpenParts
 withPart counterPart parts numbers = withCounters parts numbers
 withPart framePart parts numbers = withFrames parts numbers
 withPart keptPart parts numbers = withKept parts numbers
+withPart armPart parts numbers = withArms parts numbers
 
 with-again : (p : Part) (parts : OpenParts) (first second : List ℕ) → withPart p (withPart p parts first) second ≡ withPart p parts second
 with-again counterPart parts first second = refl
 with-again framePart parts first second = refl
 with-again keptPart parts first second = refl
+with-again armPart parts first second = refl
 
 with-own : (p : Part) (parts : OpenParts) → withPart p parts (partOf p parts) ≡ parts
 with-own counterPart parts = refl
 with-own framePart parts = refl
 with-own keptPart parts = refl
+with-own armPart parts = refl
 
 part-with : (p : Part) (parts : OpenParts) (numbers : List ℕ) → partOf p (withPart p parts numbers) ≡ numbers
 part-with counterPart parts numbers = refl
 part-with framePart parts numbers = refl
 part-with keptPart parts numbers = refl
+part-with armPart parts numbers = refl
 
 -- ---- reading and writing inside a part
 
@@ -47,6 +52,7 @@ module _ (p : Part) (numbers : List ℕ) where
       go counterPart = refl
       go framePart = refl
       go keptPart = refl
+      go armPart = refl
 
   -- a number that lies in the part
   pub part-at : {place : ℕ} (i : ℕ) → place ≡ partStart p + i → i < partLength p → getD numbers place 0 ≡ getD (partOf p (partsIn numbers)) i 0
@@ -79,15 +85,19 @@ written p numbers i v e h = ap (λ (n : ℕ). partsIn (set numbers n v)) e ∙ a
     at counterPart h =
         let place : ℕ = partStart counterPart + i in
         λ k. openParts (own counterPart numbers i v h k) (apart framePart numbers place v (inl (omega arith)) k)
-        (apart keptPart numbers place v (inl (omega arith)) k)
+        (apart keptPart numbers place v (inl (omega arith)) k) (apart armPart numbers place v (inl (omega arith)) k)
     at framePart h =
         let place : ℕ = partStart framePart + i in
         λ k. openParts (apart counterPart numbers place v (inr (omega arith)) k) (own framePart numbers i v h k)
-        (apart keptPart numbers place v (inl (omega arith)) k)
+        (apart keptPart numbers place v (inl (omega arith)) k) (apart armPart numbers place v (inl (omega arith)) k)
     at keptPart h =
         let place : ℕ = partStart keptPart + i in
         λ k. openParts (apart counterPart numbers place v (inr (omega arith)) k) (apart framePart numbers place v (inr (omega arith)) k)
-        (own keptPart numbers i v h k)
+        (own keptPart numbers i v h k) (apart armPart numbers place v (inl (omega arith)) k)
+    at armPart h =
+        let place : ℕ = partStart armPart + i in
+        λ k. openParts (apart counterPart numbers place v (inr (omega arith)) k) (apart framePart numbers place v (inr (omega arith)) k)
+        (apart keptPart numbers place v (inr (omega arith)) k) (own armPart numbers i v h k)
 
 -- a least and a most
 pub pair-written : (p : Part) (numbers : List ℕ) {place : ℕ} (i least most : ℕ) → place ≡ partStart p + i → i + 1 < partLength p →

@@ -1,4 +1,5 @@
--- The trips kept of the open closed loops: a least and a most for each. A loop has room for as many as there can be loops inside it.
+-- The trips kept of the open closed loops, and of a ranked one in its first trips: a least and a most for each. A loop has room for as many as there
+-- can be loops inside it.
 use mathlib.Core.List.{List, [], _∷_}
 use Prim.Native.Nat.{ℕ, zero, suc, _+_, _*_, _-_, _^_, min}
 use lib.ListN.{getD}
@@ -20,7 +21,7 @@ keptFrom depth = depth * (2 * depthLimit - 1 - depth)
 unfoldable pub tripKept : List ℕ → ℕ → ℕ → List ℕ → List ℕ
 tripKept kept depth held sums = withPair kept (keptFrom depth + 2 * held) (leastOf sums) (mostOf sums)
 
--- how many trips of a closed loop are held before the open one: the trips begun before it, one less than the limit at most
+-- how many trips of a closed or ranked loop are held before the open one: the trips begun before it, one less than the limit at most
 unfoldable pub heldTrips : ℕ → ℕ → ℕ
 heldTrips limit counter = min counter (limit - 1)
 

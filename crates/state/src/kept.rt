@@ -1,4 +1,4 @@
-// The trips kept of the open closed loops: a least and a most for each.
+// The trips kept of the open closed loops, and of a ranked one in its first trips: a least and a most for each.
 ghost use mathlib.Core.Path.{_≡_};
 ghost use Prim.Native.Nat.{suc, _+_, _<_, _≤_};
 ghost use Rattle.meaning.specs.Limits.{depthLimit};

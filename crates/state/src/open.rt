@@ -1,21 +1,28 @@
-// What is open, as one array in three parts: a counter for each open loop, a frame for each open record, and the kept trips of each open closed
-// loop, each part outermost first. What is not open is 0.
+// What is open, as one array in four parts: a counter for each open loop, a frame for each open record, the kept trips of each open closed or
+// ranked loop, each part outermost first, and the kept arms of the open ranked loop. What is not open is 0.
 ghost use mathlib.Core.Path.{_≡_};
 ghost use Prim.Native.Nat.{_+_, _<_, _≤_};
 ghost use Rattle.meaning.specs.Limits.{depthLimit};
 ghost use Rattle.state.specs.Open.{openLength, partsIn, counterAt, withCounter, withPair, blanked};
 use form::MAX_DEPTH;
 use records::MAX_OPEN;
+use records::MAX_RECORDS;
 
 // How many numbers a frame has.
 pub(crate) const FRAME_WIDTH: usize = 5;
 
-// Where the frames and the kept trips begin; the counters come first.
+// How many arms are kept at most: in as many trips as loops can be deep, all arms of a loop. A loop with a choice of m arms and with three loops
+// nested inside it takes m + 9 records.
+pub const MAX_KEPT_ARMS: usize = MAX_DEPTH * (MAX_RECORDS - 9);
+
+// Where the frames, the kept trips and the kept arms begin; the counters come first.
 pub(crate) const FRAMES: usize = MAX_DEPTH;
 
 pub(crate) const KEPT: usize = FRAMES + MAX_OPEN * FRAME_WIDTH;
 
-pub const OPEN_NUMBERS: usize = KEPT + MAX_DEPTH * (MAX_DEPTH - 1);
+pub(crate) const ARMS: usize = KEPT + MAX_DEPTH * (MAX_DEPTH - 1);
+
+pub const OPEN_NUMBERS: usize = ARMS + 1 + 2 * MAX_KEPT_ARMS;
 
 pub type Open = [u64; OPEN_NUMBERS];
 

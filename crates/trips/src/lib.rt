@@ -1,14 +1,19 @@
 // A loop's trips, from the counters of the loops around it, and how many of them are visited.
 ghost use mathlib.Core.Path.{_≡_};
-ghost use Prim.Native.Nat.{suc, _/_, max};
+ghost use Prim.Native.Nat.{suc, _/_, _≤_, max};
 ghost use lib.Dec.{ltb};
+ghost use Rattle.meaning.specs.Limits.{depthLimit};
 ghost use Rattle.state.specs.Open.{countersIn};
 ghost use Rattle.trips.specs.Trips as Trips;
+use form::MAX_DEPTH;
 use layout::differences::Differences;
 use layout::differences::NEGATIVE;
 use layout::differences::base_at;
 use layout::differences::push_at;
 use layout::differences::stride_at;
+use layout::limits::Limits;
+use layout::limits::limit_at;
+use layout::limits::ranked_at;
 use newton::product::wrapping_product;
 use records::loops::Loop;
 use state::open::Open;
@@ -47,6 +52,26 @@ pub fn trips_at(differences: &Differences, opened: &Open, number: usize) -> u64
     }
     let steps = quotient(d, stride_at(differences, number));
     smaller(steps + 1, Loop::MAX_CEILING)
+}
+
+// How many trips a closed or ranked loop with so many loops around it visits at most where the rest is summed; 0 where it is walked.
+pub fn limit_within(limits: &Limits, number: usize, depth: usize) -> u64
+    requires { ⌜ depth ≤ depthLimit ⌝ }
+    ensures { λ r. ⌜ r ≡ Trips.limitWithin (now (limits .entry)) number depth ⌝ }
+{
+    smaller(limit_at(limits, number), (MAX_DEPTH - depth) as u64)
+}
+
+// The same at the trip that the counter counts: a ranked loop in a trip after its first ones is walked.
+pub fn limit_now(limits: &Limits, number: usize, depth: usize, counter: u64) -> u64
+    requires { ⌜ depth ≤ depthLimit ⌝ }
+    ensures { λ r. ⌜ r ≡ Trips.limitNow (now (limits .entry)) number depth counter ⌝ }
+{
+    let limit = limit_within(limits, number, depth);
+    if !ranked_at(limits, number) {
+        return limit;
+    }
+    if counter < limit { limit } else { 0 }
 }
 
 // How many of a loop's trips are visited: all of a walked loop's, which has limit 0.

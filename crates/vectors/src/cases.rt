@@ -2,8 +2,6 @@
 use crate::calls::CALL;
 use crate::numbers::PARAMETERS;
 use crate::plans::LINE;
-use crate::states::MOST_STAGES;
-use crate::states::STATE;
 use encoding::number::byte_at;
 use encoding::number::signed8_at;
 use encoding::number::signed16_at;
@@ -30,6 +28,9 @@ pub(crate) const LINES: u8 = 7;
 pub(crate) const WITH_SKIPS: u8 = 8;
 
 pub(crate) const WITHOUT_SKIPS: u8 = 9;
+
+// No case has more entries, save one of texts, stages or a converter, which says how many bytes follow its sheet.
+const MOST_ENTRIES: usize = 150;
 
 // How many bytes an entry takes that has the fields of a record.
 pub(crate) const ENTRY: usize = 31;
@@ -64,11 +65,11 @@ pub(crate) fn entries_length(case: Case) -> usize {
     if case.which == TEXTS || case.which == WITH_SKIPS || case.which == WITHOUT_SKIPS {
         return entries;
     }
-    if MOST_STAGES < entries {
-        return 0;
-    }
     if case.which == STAGES {
-        return PARAMETERS + STATE * entries;
+        return case.value;
+    }
+    if MOST_ENTRIES < entries {
+        return 0;
     }
     if case.which == PLAN {
         return PARAMETERS + LINE * entries;

@@ -22,13 +22,14 @@ use planner::report::report_of;
 use reasons::Found;
 use records::MAX_RECORDS;
 
-// How many bytes a loop's line takes: its offset, closed or walked, its ceiling, and why it is walked.
+// How many bytes a loop's line takes: its offset, closed, walked or ranked, its ceiling, and why it is not closed.
 pub(crate) const LINE: usize = 10;
 
 // The number that a stored line has for a class.
 fn class_number(class: Class) -> u8 {
     match class {
         Class::Closed => 1,
+        Class::Ranked => 2,
         Class::Walked => 0,
     }
 }

@@ -9,7 +9,7 @@ use Rattle.planner.proofs.Planned.{planned-count, planned-refused}
 use Rattle.planner.proofs.Parameters.{small-parameters}
 use Rattle.figures.specs.Demand.{Answered}
 use Rattle.figures.proofs.Answering.{stopped-answer, planned}
-use Rattle.figures.proofs.Demands.{promised}
+use Rattle.figures.proofs.Demands.{only-visits-fall, promised}
 use borrow.Author.Needs.{needs}
 use Rattle.figures.proofs.cycles.Statement.{statement}
 use Rattle.figures.proofs.cycles.Tie as tie
@@ -20,7 +20,7 @@ returns c =
     let a = c .before .before .args in
     let out : BudgetOutOfRange (a .budget) = ⊎-elim (λ w. inl (w .taken)) (λ w. inr (ltb-true _ _ (w .1 .taken))) (c .if1 .came) in
     let answers = sym (answer-out-of-range (a .sheet .now) (a .parameters) (a .budget) out) in
-    (answers, (tt, answered-alike (a .sheet .now) (a .parameters) (a .budget) _ answers))
+    (answers, (tt, (answered-alike (a .sheet .now) (a .parameters) (a .budget) _ answers, only-visits-fall (a .sheet .now) (a .parameters) (a .budget) answers)))
 
 plan-requires : tie.Need-plan-requires
 plan-requires c κs = search needs
@@ -56,7 +56,7 @@ returns-2 c =
     (plans .plan .ensures .1 .0) (plans .plan .ensures .1 .1 .0) (plans .plan .ensures .1 .1 .1 .0) (plans .plan .ensures .1 .1 .1 .1) (count .2)
     (start .args .budget) range (c .before .before .repeat-stages .ensures) in
     let p = promised sheet parameters small (start .args .budget) (c .figures-of .ensures) stopped in
-    (p .0, (p .1, answered-alike sheet parameters (start .args .budget) _ (p .0)))
+    (p .0, (p .1, (answered-alike sheet parameters (start .args .budget) _ (p .0), only-visits-fall sheet parameters (start .args .budget) (p .0))))
 
 returns-3 : tie.Need-returns-3
 unfolding Answered
@@ -69,7 +69,7 @@ returns-3 c =
     let range : BudgetInRange (start .args .budget) = record { positive = omega (arith, within .before .if1 .left); within = ltb-false _ _ (within .if2 .left) } in
     let down = planned-refused sheet parameters (plans .plan .result) (plans .plan .ensures .0) (c .before .planned2 .given .1) in
     let answers = sym (answer-refused sheet parameters (start .args .budget) _ _ range down) in
-    (answers, (tt, answered-alike sheet parameters (start .args .budget) _ answers))
+    (answers, (tt, (answered-alike sheet parameters (start .args .budget) _ answers, only-visits-fall sheet parameters (start .args .budget) answers)))
 
 pub cycles-spec : {M : Type 1} → statement M
 cycles-spec =

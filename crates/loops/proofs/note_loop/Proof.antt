@@ -1,4 +1,4 @@
--- Above the limit nothing is stored; else what is stored are the loop's words, its ceiling, its choice depth and whether its smallest D is enough.
+-- Above the limit nothing is stored; else what is stored are the loop's words, its ceiling, how many loops are barred and whether its smallest D is enough.
 use lib.IntN.{ℤ}
 use mir.Facts.{toZ-ofZ}
 use Rattle.form.specs.Forms.{wideForm}
@@ -35,13 +35,16 @@ cast-t17 c = search needs
 cast-t18 : tie.Need-cast-t18
 cast-t18 c = search needs
 
+cast-t19 : tie.Need-cast-t19
+cast-t19 c = search needs
+
 put-fact-requires : tie.Need-put-fact-requires
 put-fact-requires c κs = search needs
 
 returns-2 : tie.Need-returns-2
 unfolding factWithin
 returns-2 c =
-    let words = c .before .before .before .before .before in
+    let words = c .before .before .before .before .before .before .before in
     let left = words .before .before in
     let reached = left .before .before in
     let given = reached .before .before .before .args in
@@ -50,11 +53,11 @@ returns-2 c =
     let enough = found .1 ∙ ap (λ (z : ℤ). enoughWithin (wideForm (given .forms .difference)) z (given .around)) asked in (
       sym (le-ltb ceilingLimit _ (left .if1 .left)) ∙ ap (ltb ceilingLimit) (found .0),
       (
-        c .before .before .before .put-difference .ensures
+        c .before .before .before .before .before .put-difference .ensures
             ∙ ap (λ (w : List ℕ). paste (given .differences .now) (differenceFrom (given .number)) w differenceWidth) (words .loop-words .ensures),
         c .put-fact .ensures
             ∙ (λ i. paste (given .facts .now) (factFrom (given .number))
-            (factNumbers (record { ceiling = found .0 i; choice = given .choice; enough = enough i })) factWidth),
+            (factNumbers (record { ceiling = found .0 i; choice = given .barred .choice; rank = given .barred .rank; enough = enough i })) factWidth),
       ),
     )
 
@@ -68,5 +71,6 @@ note-loop-spec =
     put-difference-requires
     cast-t17
     cast-t18
+    cast-t19
     put-fact-requires
     returns-2)

@@ -4,7 +4,7 @@ use Rattle.sheet.proofs.SheetRecords.{few-records}
 use Prim.Native.Nat.{_-_, _<_}
 use Rattle.meaning.specs.Limits.{depthLimit}
 use Rattle.loops.proofs.Surveying.{Surveying, surveying-start, surveying-done, surveying-skip, surveying-over, surveying-next}
-use Rattle.loops.proofs.Surveying.{stride-range, depth-range, choice-small}
+use Rattle.loops.proofs.Surveying.{stride-range, depth-range, barred-small}
 use borrow.Author.Needs.{needs}
 use Rattle.loops.proofs.survey.Statement.{statement}
 use Rattle.loops.proofs.survey.Tie as tie
@@ -54,8 +54,8 @@ loop-again c =
 forms-at-requires : tie.Need-forms-at-requires Inv-loop μ-loop
 forms-at-requires c κs = search needs
 
-choice-depth-requires : tie.Need-choice-depth-requires Inv-loop μ-loop
-choice-depth-requires c κs = search needs
+barred-by-requires : tie.Need-barred-by-requires Inv-loop μ-loop
+barred-by-requires c κs = search needs
 
 loop-at-requires : tie.Need-loop-at-requires Inv-loop μ-loop
 loop-at-requires c κs = search needs
@@ -86,22 +86,22 @@ module _ (c : tie.After-forms-at Inv-loop μ-loop) where
 
 note-loop-requires : tie.Need-note-loop-requires Inv-loop μ-loop
 note-loop-requires c κs =
-    let choice = c .before .before .before in
-    let forms = choice .before in (
+    let barred = c .before .before .before in
+    let forms = barred .before in (
       stride-there forms,
-      choice-small (turn forms .before .loop .inv) (turn forms .loop-test .taken) (start forms .pre .1 .0) (start forms .pre .1 .1)
+      barred-small (turn forms .before .loop .inv) (turn forms .loop-test .taken) (start forms .pre .1 .0) (start forms .pre .1 .1)
           (role forms .role-at .ensures) (forms .before .if1 .left) (offset forms .offset-at .ensures) (forms .forms-at .ensures)
-          (choice .choice-depth .ensures _ (turn forms .before .loop .inv .opens)),
+          (barred .barred-by .ensures _ (turn forms .before .loop .inv .opens)),
     )
 
 returns : tie.Need-returns Inv-loop μ-loop
 returns c =
     let noted = c .before .note-loop .ensures in
-    let choice = c .before .before .before .before .before in
-    let forms = choice .before in
+    let barred = c .before .before .before .before .before in
+    let forms = barred .before in
     surveying-over (turn forms .before .loop .inv) (turn forms .loop-test .taken) (start forms .pre .1 .0) (start forms .pre .1 .1)
     (role forms .role-at .ensures) (forms .before .if1 .left) (offset forms .offset-at .ensures) (forms .forms-at .ensures)
-    (noted .0) (c .before .before .before .before .loop-at .ensures) (choice .choice-depth .ensures _ (turn forms .before .loop .inv .opens))
+    (noted .0) (c .before .before .before .before .loop-at .ensures) (barred .barred-by .ensures _ (turn forms .before .loop .inv .opens))
     (noted .1 .0) (noted .1 .1) (c .if2 .taken)
 
 around-with-requires : tie.Need-around-with-requires Inv-loop μ-loop
@@ -124,11 +124,11 @@ loop-less-2 c = omega (arith, c .before .before .before .before .before .before 
 loop-again-2 : tie.Need-loop-again-2 Inv-loop μ-loop
 loop-again-2 c =
     let noted = c .before .before .before .before .note-loop .ensures in
-    let choice = c .before .before .before .before .before .before .before .before in
-    let forms = choice .before in
+    let barred = c .before .before .before .before .before .before .before .before in
+    let forms = barred .before in
     surveying-next (turn forms .before .loop .inv) (turn forms .loop-test .taken) (start forms .pre .1 .0) (start forms .pre .1 .1)
     (role forms .role-at .ensures) (forms .before .if1 .left) (offset forms .offset-at .ensures) (forms .forms-at .ensures)
-    (noted .0) (c .before .before .before .before .before .before .before .loop-at .ensures) (choice .choice-depth .ensures _ (turn forms .before .loop .inv .opens))
+    (noted .0) (c .before .before .before .before .before .before .before .loop-at .ensures) (barred .barred-by .ensures _ (turn forms .before .loop .inv .opens))
     (noted .1 .0) (noted .1 .1) (c .before .before .before .if2 .left) (role forms .before .byte-at .ensures) (c .after2 .ensures .1)
     (c .before .before .around-with .ensures) (c .before .pushes-with .ensures)
 
@@ -151,7 +151,7 @@ survey-spec =
     loop-less
     loop-again
     forms-at-requires
-    choice-depth-requires
+    barred-by-requires
     loop-at-requires
     note-loop-requires
     returns

@@ -1,4 +1,4 @@
--- The answer is whether the third number of the loop's fact is other than 0.
+-- The answer is whether the fourth number of the loop's fact is other than 0.
 use mathlib.Core.Path.{ap}
 use mathlib.Core.Bool.{not}
 use Prim.Native.Nat.{ℕ}

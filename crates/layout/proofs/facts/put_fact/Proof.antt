@@ -1,4 +1,4 @@
--- The three numbers of a fact, in the order of the definition, are pasted at the loop's place, which lies within the facts.
+-- The four numbers of a fact, in the order of the definition, are pasted at the loop's place, which lies within the facts.
 use mathlib.Core.Path.{ap, _∙_}
 use mathlib.Core.List.{[], _∷_}
 use Prim.Native.Nat.{ℕ}
@@ -25,7 +25,7 @@ unfolding factNumbers
 returns c =
     let given = c .before .before .before .before .args in
     c .put .ensures
-    ∙ ap (λ (n : ℕ). paste (given .facts .now) (factFrom (given .number)) (given .known .ceiling ∷ given .known .choice ∷ n ∷ []) factWidth)
+    ∙ ap (λ (n : ℕ). paste (given .facts .now) (factFrom (given .number)) (given .known .ceiling ∷ given .known .choice ∷ given .known .rank ∷ n ∷ []) factWidth)
     (c .before .before .before .one-if .ensures)
 
 pub put-fact-spec : {M : Type 1} → statement M

@@ -21,7 +21,7 @@ close-frame-requires c κs = search needs
 returns : tie.Need-returns
 returns c =
     let c3 = c .before .before .before in let c6 = c3 .before .before .before in let c7 = c6 .before in
-    let a = c7 .before .before .before .before .args in
+    let c11 = c7 .before .before .before .before in let a = c11 .args in
     walked-left (a .around) (a .frame) (now (a .sums)) (partsIn (now (a .opened))) (c6 .if1 .taken) (a .trips) (c7 .put-counter .ensures)
     (c3 .pass-trip .ensures) (c .close-frame .ensures .0) (c .close-frame .ensures .1)
 
@@ -31,32 +31,17 @@ sub-smaller c = search needs
 smaller-requires : tie.Need-smaller-requires
 smaller-requires c κs = search needs
 
-add-weights-of : tie.Need-add-weights-of
-add-weights-of c = search needs
-
-weights-of-requires : tie.Need-weights-of-requires
-weights-of-requires c κs = search needs
-
-element-copy-out-first-trips : tie.Need-element-copy-out-first-trips
-element-copy-out-first-trips c = search needs
-
-first-trips-requires : tie.Need-first-trips-requires
-first-trips-requires c κs = search needs
-
-weighted-sum-requires : tie.Need-weighted-sum-requires
-weighted-sum-requires c κs = search needs
-
-element-copy-out-first-trips-2 : tie.Need-element-copy-out-first-trips-2
-element-copy-out-first-trips-2 c = search needs
-
-first-trips-requires-2 : tie.Need-first-trips-requires-2
-first-trips-requires-2 c κs = search needs
-
-weighted-sum-requires-2 : tie.Need-weighted-sum-requires-2
-weighted-sum-requires-2 c κs = search needs
+sum-trips-requires : tie.Need-sum-trips-requires
+sum-trips-requires c κs = search needs
 
 forget-requires : tie.Need-forget-requires
 forget-requires c κs = search needs
+
+array-read-add-around : tie.Need-array-read-add-around
+array-read-add-around c = search needs
+
+array-read-add-around-2 : tie.Need-array-read-add-around-2
+array-read-add-around-2 c = search needs
 
 add-around-requires : tie.Need-add-around-requires
 add-around-requires c κs = search needs
@@ -66,12 +51,10 @@ leave-frame-requires c κs = search needs
 
 returns-2 : tie.Need-returns-2
 returns-2 c =
-    let c2 = c .before .before in let c5 = c2 .before .before .before in let c7 = c5 .before .before in let c8 = c7 .before in
-    let c11 = c8 .before .before .before in let c12 = c11 .before in let c15 = c12 .before .before .before in let c16 = c15 .before in
-    let c17 = c16 .before in let c18 = c17 .before in let c20 = c18 .before .before in let c22 = c20 .before .before in let a = c22 .args in
-    closed-left (a .around) (a .frame) (now (a .sums)) (partsIn (now (a .opened))) (c20 .counter-at .ensures) (a .limit) (c17 .if1 .left) (a .trips)
-    (c22 .pre .1 .1) (c18 .put-counter .ensures) (c16 .smaller .ensures) (c15 .weights-of .ensures) (c12 .first-trips .ensures)
-    (c11 .weighted-sum .ensures) (c8 .first-trips2 .ensures) (c7 .weighted-sum2 .ensures) (c5 .forget .ensures) (c2 .add-around .ensures)
+    let c2 = c .before .before in let c5 = c2 .before .before .before in let c7 = c5 .before .before in let c10 = c7 .before .before .before in
+    let c11 = c10 .before in let c12 = c11 .before in let c14 = c12 .before .before in let c16 = c14 .before .before in let a = c16 .args in
+    closed-left (a .around) (a .frame) (now (a .sums)) (partsIn (now (a .opened))) (c14 .counter-at .ensures) (a .limit) (c11 .if1 .left) (a .trips)
+    (c12 .put-counter .ensures) (c10 .smaller .ensures) (c7 .sum-trips .ensures) (c5 .forget .ensures) (c2 .add-around .ensures)
     (c .leave-frame .ensures)
 
 pub leave-loop-spec : {M : Type 1} → statement M
@@ -85,15 +68,10 @@ leave-loop-spec =
     returns
     sub-smaller
     smaller-requires
-    add-weights-of
-    weights-of-requires
-    element-copy-out-first-trips
-    first-trips-requires
-    weighted-sum-requires
-    element-copy-out-first-trips-2
-    first-trips-requires-2
-    weighted-sum-requires-2
+    sum-trips-requires
     forget-requires
+    array-read-add-around
+    array-read-add-around-2
     add-around-requires
     leave-frame-requires
     returns-2)

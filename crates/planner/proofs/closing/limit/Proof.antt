@@ -1,4 +1,4 @@
--- The invariant: no loop before record `i` prevents the closing, and `deepest` is their largest depth. The measure is the records left inside.
+-- The invariant: no loop before record `i` prevents ranking, `ranked` is whether closing is barred, and `deepest` is their largest depth. The measure is the records left inside.
 use native.Mathlib.Omega.{arith}
 use Prim.Native.Nat.{_-_}
 use Rattle.planner.proofs.Preventing.{Limiting, limiting-start, limiting-done, limiting-skip, limiting-prevented, limiting-next}
@@ -7,10 +7,11 @@ use Rattle.planner.proofs.closing.limit.Statement.{statement}
 use Rattle.planner.proofs.closing.limit.Tie as tie
 
 abbrev Inv-loop : tie.InvT-loop
-Inv-loop rows differences facts number depth end deepest₀ i₀ deepest i = Limiting rows differences facts number depth end deepest i
+Inv-loop rows differences facts number depth end deepest₀ ranked₀ i₀ deepest ranked i =
+    Limiting rows differences facts number depth end deepest ranked i
 
 abbrev μ-loop : tie.MeasureT-loop
-μ-loop rows differences facts number depth end deepest₀ i₀ deepest i = end - i
+μ-loop rows differences facts number depth end deepest₀ ranked₀ i₀ deepest ranked i = end - i
 
 depth-at-requires : tie.Need-depth-at-requires Inv-loop μ-loop
 depth-at-requires c κs = search needs
@@ -52,6 +53,9 @@ returns c =
     limiting-prevented (role .before .before .loop .inv) (role .before .loop-test .taken) (role .role-at .ensures) (asked .before .before .if1 .left)
     (asked .before .loop-at .ensures) (asked .prevents .ensures) (c .if2 .taken)
 
+barred-requires : tie.Need-barred-requires Inv-loop μ-loop
+barred-requires c κs = search needs
+
 depth-at-requires-2 : tie.Need-depth-at-requires-2 Inv-loop μ-loop
 depth-at-requires-2 c κs = search needs
 
@@ -66,19 +70,23 @@ loop-less-2 c = search needs
 
 loop-again-2 : tie.Need-loop-again-2 Inv-loop μ-loop
 loop-again-2 c =
-    let asked = c .before .before .before in
+    let barred = c .before .before in
+    let asked = barred .before .before in
     let role = asked .before .before .before in
     limiting-next (role .before .before .loop .inv) (role .before .loop-test .taken) (role .role-at .ensures) (asked .before .before .if1 .left)
-    (asked .before .loop-at .ensures) (asked .prevents .ensures) (c .before .before .if2 .left) (c .before .depth-at2 .ensures) (c .larger .ensures)
+    (asked .before .loop-at .ensures) (asked .prevents .ensures) (barred .before .if2 .left) (barred .barred .ensures) (c .before .depth-at2 .ensures) (c .larger .ensures)
 
-sub-result : tie.Need-sub-result Inv-loop μ-loop
-sub-result c = c .before .loop .inv .deep
+sub-limit-number : tie.Need-sub-limit-number Inv-loop μ-loop
+sub-limit-number c = c .before .loop .inv .deep
 
-add-result : tie.Need-add-result Inv-loop μ-loop
-add-result c = record { fits = omega (arith, c .before .loop .inv .low) }
+add-limit-number : tie.Need-add-limit-number Inv-loop μ-loop
+add-limit-number c = record { fits = omega (arith, c .before .loop .inv .low) }
+
+limit-number-requires : tie.Need-limit-number-requires Inv-loop μ-loop
+limit-number-requires c κs = search needs
 
 returns-2 : tie.Need-returns-2 Inv-loop μ-loop
-returns-2 c = limiting-done (c .before .loop .inv) (c .loop-test .left)
+returns-2 c = limiting-done (c .before .before .loop .inv) (c .before .loop-test .left) (c .limit-number .ensures)
 
 pub limit-spec : {M : Type 1} → statement M
 limit-spec =
@@ -97,11 +105,13 @@ limit-spec =
     loop-at-requires
     prevents-requires
     returns
+    barred-requires
     depth-at-requires-2
     larger-requires
     add-i-3
     loop-less-2
     loop-again-2
-    sub-result
-    add-result
+    sub-limit-number
+    add-limit-number
+    limit-number-requires
     returns-2)

@@ -4,11 +4,11 @@ use borrow.Author.Needs.{needs}
 use Rattle.planner.proofs.closing.prevents.Statement.{statement}
 use Rattle.planner.proofs.closing.prevents.Tie as tie
 
-choice-depth-at-requires : tie.Need-choice-depth-at-requires
-choice-depth-at-requires c κs = search needs
+rank-depth-at-requires : tie.Need-rank-depth-at-requires
+rank-depth-at-requires c κs = search needs
 
 returns : tie.Need-returns
-returns c f known = prevents-choice known (c .before .choice-depth-at .ensures) (c .if1 .taken)
+returns c f known = prevents-choice known (c .before .rank-depth-at .ensures) (c .if1 .taken)
 
 enough-at-requires : tie.Need-enough-at-requires
 enough-at-requires c κs = search needs
@@ -19,19 +19,19 @@ uneven-requires c κs = search needs
 returns-2 : tie.Need-returns-2
 returns-2 c f known =
     let enough = c .before .before in
-    prevents-uneven known (enough .before .before .choice-depth-at .ensures) (enough .before .if1 .left) (enough .enough-at .ensures) (c .before .if2 .taken)
+    prevents-uneven known (enough .before .before .rank-depth-at .ensures) (enough .before .if1 .left) (enough .enough-at .ensures) (c .before .if2 .taken)
     (c .uneven .ensures _ f known)
 
 returns-3 : tie.Need-returns-3
 returns-3 c f known =
     let enough = c .before in
-    prevents-short known (enough .before .before .choice-depth-at .ensures) (enough .before .if1 .left) (enough .enough-at .ensures) (c .if2 .left)
+    prevents-short known (enough .before .before .rank-depth-at .ensures) (enough .before .if1 .left) (enough .enough-at .ensures) (c .if2 .left)
 
 pub prevents-spec : {M : Type 1} → statement M
 prevents-spec =
     tie.close
     (tie.spec
-    choice-depth-at-requires
+    rank-depth-at-requires
     returns
     enough-at-requires
     uneven-requires

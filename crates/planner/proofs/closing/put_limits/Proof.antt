@@ -33,9 +33,6 @@ limit-requires c κs = omega (arith, c .before .before .loop-test .taken, c .bef
 loop-at-requires : tie.Need-loop-at-requires Inv-loop μ-loop
 loop-at-requires c κs = search needs
 
-narrow-requires : tie.Need-narrow-requires Inv-loop μ-loop
-narrow-requires c κs = search needs
-
 put-limit-requires : tie.Need-put-limit-requires Inv-loop μ-loop
 put-limit-requires c κs = search needs
 
@@ -47,10 +44,10 @@ loop-less-2 c = search needs
 
 loop-again-2 : tie.Need-loop-again-2 Inv-loop μ-loop
 loop-again-2 c =
-    let limited = c .before .before .before .before in
+    let limited = c .before .before .before in
     let role = limited .before .before in
     limited-next (role .before .before .loop .inv) (role .before .loop-test .taken) (role .role-at .ensures) (limited .before .if1 .left)
-    (c .before .before .loop-at .ensures) (limited .limit .ensures) (c .before .narrow .ensures) (c .put-limit .ensures)
+    (c .before .loop-at .ensures) (limited .limit .ensures) (c .put-limit .ensures)
 
 returns : tie.Need-returns Inv-loop μ-loop
 returns c = limited-done (c .before .loop .inv) (c .loop-test .left)
@@ -68,7 +65,6 @@ put-limits-spec =
     loop-again
     limit-requires
     loop-at-requires
-    narrow-requires
     put-limit-requires
     add-number-2
     loop-less-2

@@ -1,4 +1,4 @@
--- Nothing of a record that is not a loop's; of a loop's, its offset, the class of its limit and its ceiling, as the arrays hold them.
+-- Nothing of a record that is not a loop's; of a loop's, its offset, its class, its ceiling and its reason, as the arrays hold them.
 use Rattle.planner.proofs.Reporting.{report-none, report-loop}
 use borrow.Author.Needs.{needs}
 use Rattle.planner.proofs.report.report_of.Statement.{statement}
@@ -18,6 +18,9 @@ loop-at-requires c κs = search needs
 limit-at-requires : tie.Need-limit-at-requires
 limit-at-requires c κs = search needs
 
+ranked-at-requires : tie.Need-ranked-at-requires
+ranked-at-requires c κs = search needs
+
 class-by-requires : tie.Need-class-by-requires
 class-by-requires c κs = search needs
 
@@ -32,11 +35,13 @@ ceiling-at-requires c κs = search needs
 
 returns-2 : tie.Need-returns-2
 returns-2 c =
-    let of-loop = c .before .before .before .before .before in
+    let ranked = c .before .before .before .before in
+    let limit = ranked .before in
+    let of-loop = limit .before in
     let role = of-loop .before .before in
     let given = role .before .args in
     report-loop (given .rows .now) (given .differences .now) (given .facts .now) (given .limits .now) (given .number) (role .role-at .ensures)
-    (of-loop .before .if1 .left) (of-loop .loop-at .ensures) (c .before .offset-at .ensures) (c .before .before .before .before .limit-at .ensures)
+    (of-loop .before .if1 .left) (of-loop .loop-at .ensures) (c .before .offset-at .ensures) (limit .limit-at .ensures) (ranked .ranked-at .ensures)
     (c .before .before .before .class-by .ensures) (c .ceiling-at .ensures) (c .before .before .reason-by .ensures)
 
 pub report-of-spec : {M : Type 1} → statement M
@@ -47,6 +52,7 @@ report-of-spec =
     returns
     loop-at-requires
     limit-at-requires
+    ranked-at-requires
     class-by-requires
     reason-by-requires
     offset-at-requires

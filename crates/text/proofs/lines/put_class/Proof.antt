@@ -1,4 +1,4 @@
--- For either class the bytes put are those of its word, and no more than six.
+-- For each class the bytes put are those of its word, and no more than six.
 use mathlib.Core.Path.{sym, ap}
 use mathlib.Core.List.{List}
 use Prim.Native.Nat.{ℕ}
@@ -33,6 +33,15 @@ slice-aggregate-put-2 c = search needs
 put-requires-2 : tie.Need-put-requires-2
 put-requires-2 c κs = search needs
 
+enum-told-3 : tie.Need-enum-told-3
+enum-told-3 c = search needs
+
+slice-aggregate-put-3 : tie.Need-slice-aggregate-put-3
+slice-aggregate-put-3 c = search needs
+
+put-requires-3 : tie.Need-put-requires-3
+put-requires-3 c κs = search needs
+
 same-length : tie.Need-same-length
 same-length c = search needs
 
@@ -51,6 +60,15 @@ returns-2 c =
     let put = c .before .before in
     (same-bytes (ap word (sym (put .before .before .before .enum-told2 .given .1))) (put .put2 .ensures), omega arith)
 
+same-length-3 : tie.Need-same-length-3
+same-length-3 c = search needs
+
+returns-3 : tie.Need-returns-3
+unfolding text className
+returns-3 c =
+    let put = c .before .before in
+    (same-bytes (ap word (sym (put .before .before .before .enum-told3 .given .1))) (put .put3 .ensures), omega arith)
+
 pub put-class-spec : {M : Type 1} → statement M
 put-class-spec =
     tie.close
@@ -61,7 +79,12 @@ put-class-spec =
     enum-told-2
     slice-aggregate-put-2
     put-requires-2
+    enum-told-3
+    slice-aggregate-put-3
+    put-requires-3
     same-length
     returns
     same-length-2
-    returns-2)
+    returns-2
+    same-length-3
+    returns-3)

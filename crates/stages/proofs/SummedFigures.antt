@@ -1,46 +1,31 @@
--- The numbers kept of a closed loop's trips give the sum of all its trips, modulo 2^64 and so exactly.
+-- The numbers kept of a loop's trips give the sum of all its trips, modulo 2^64 and so exactly.
 use mathlib.Core.List.{_++_, List, [], map, _∷_}
 use mathlib.Core.Path.{ap, refl, _∙_, _≡_}
-use Prim.Native.Nat.{_*_, _+_, _<_, _^_, min, suc, zero, ℕ, _≤_}
+use Prim.Native.Nat.{_*_, _+_, _<_, _^_, suc, zero, ℕ, _≤_}
 use native.Mathlib.Omega.{arith}
 use native.Mathlib.Nat.{mod-eq-of-lt}
-use lib.Dec.{T}
 use lib.ListN.{getD, length, take}
 use lib.IntN.{pos, ℤ}
 use Rattle.whole.specs.Integer.{floorRemainder}
 use Rattle.whole.specs.Newton.{newtonSum}
-use Rattle.meaning.specs.Tree.{Block, height}
-use Rattle.meaning.specs.Time.{Bounds, exactly, sumOver, trips, _⊕_}
-use Rattle.meaning.specs.Record.{Loop}
-use Rattle.meaning.specs.Range.{Range}
-use Rattle.meaning.specs.Closed.{closed}
-use Rattle.meaning.proofs.Trips.{Inside, firstSums, tripTime}
-use Rattle.meaning.proofs.Sound.{Sound}
-use Rattle.meaning.proofs.ClosedLoops.{closed-figure-exact}
+use Rattle.meaning.specs.Time.{Bounds}
 use Rattle.newton.specs.Weights.{weightedSum, weightsOf}
 use Rattle.newton.proofs.Sum.{weights-newton}
 use Rattle.state.specs.Kept.{firstTrips, keptFrom, keptTrip, tripsSum}
 use Rattle.state.proofs.Innermost.{getD-behind}
-use Rattle.stages.specs.Represent.{boundsNumbers}
-use Rattle.stages.proofs.Steps.{numbers-length}
+use Rattle.ranking.specs.Settled.{boundsNumbers}
+use Rattle.ranking.proofs.FlatLaws.{bounds-numbers-length}
 
--- one of the two figures, least or most
-module _ (figure : Bounds → ℕ) (figure-⊕ : (a b : Bounds) → figure (a ⊕ b) ≡ figure a + figure b) (figure-exactly : (n : ℕ) → figure (exactly n) ≡ n) where
-  -- the sum that the state's numbers give: `held` trips kept, then the open one
-  pub sum-exact : (ps : List ℤ) (l : Loop) (body : Block) → Sound body → (ranges : List Range) (indexes : List ℤ) → Inside indexes ranges → T (closed ps l body ranges) →
-      (held : ℕ) → suc held ≡ min (trips ps l indexes) (suc (height body)) → held < 4 → (p : List ℕ) → length p ≡ 4 →
-      take (suc held) (map pos p) ≡ map (λ b. pos (figure b)) (firstSums (suc held) (tripTime ps l body indexes)) →
-      figure (sumOver (trips ps l indexes) (tripTime ps l body indexes)) < 2 ^ 64 →
-      tripsSum (trips ps l indexes) held p ≡ figure (sumOver (trips ps l indexes) (tripTime ps l body indexes))
-  unfolding tripsSum floorRemainder
-  sum-exact ps l body sound ranges indexes inside t held all few p four same small =
-      let n : ℕ = trips ps l indexes in
-      let more : held + 1 ≡ suc held = omega arith in
-      let visited = ap (λ (m : ℕ). newtonSum n (map (λ b. pos (figure b)) (firstSums m (tripTime ps l body indexes)))) all in
-      let exact = closed-figure-exact ps figure figure-⊕ figure-exactly l body sound ranges indexes inside t in
-      ap (λ (m : ℕ). floorRemainder (weightedSum (weightsOf n m) p) (2 ^ 64)) more
-      ∙ ap (λ (z : ℤ). floorRemainder z (2 ^ 64)) (weights-newton n (suc held) p (omega arith) four ∙ ap (newtonSum n) same ∙ visited ∙ exact)
-      ∙ mod-eq-of-lt small
+-- one of the two figures, least or most: the sum of n trips that the state's numbers give, `held` trips kept, then the open one
+pub sum-exact : (figure : Bounds → ℕ) (n held : ℕ) (first : List Bounds) (sum : Bounds) → newtonSum n (map (λ b. pos (figure b)) first) ≡ pos (figure sum) →
+    held < 4 → (p : List ℕ) → length p ≡ 4 → take (suc held) (map pos p) ≡ map (λ b. pos (figure b)) first → figure sum < 2 ^ 64 →
+    tripsSum n held p ≡ figure sum
+unfolding tripsSum floorRemainder
+sum-exact figure n held first sum exact few p four same small =
+    let more : held + 1 ≡ suc held = omega arith in
+    ap (λ (m : ℕ). floorRemainder (weightedSum (weightsOf n m) p) (2 ^ 64)) more
+    ∙ ap (λ (z : ℤ). floorRemainder z (2 ^ 64)) (weights-newton n (suc held) p (omega arith) four ∙ ap (newtonSum n) same ∙ exact)
+    ∙ mod-eq-of-lt small
 
 -- ---- the kept numbers
 
@@ -56,7 +41,7 @@ module _ (figure : Bounds → ℕ) (column : ℕ) (at-column : (b : Bounds) (ns 
   -- a trip behind others
   trip-behind : (sums : List Bounds) (b : Bounds) (ns : List ℕ) → getD (boundsNumbers sums ++ (b .least ∷ b .most ∷ ns)) (2 * length sums + column) 0 ≡ figure b
   trip-behind sums b ns =
-      getD-behind (boundsNumbers sums) (b .least ∷ b .most ∷ ns) (2 * length sums + column) column 0 (omega (arith, numbers-length sums)) ∙ at-column b ns
+      getD-behind (boundsNumbers sums) (b .least ∷ b .most ∷ ns) (2 * length sums + column) column 0 (omega (arith, bounds-numbers-length sums)) ∙ at-column b ns
 
   module _ (before : List ℕ) (depth : ℕ) (from : length before ≡ keptFrom depth) where
     kept-trip : (sums : List Bounds) (b : Bounds) (ns : List ℕ) → keptTrip (before ++ (boundsNumbers sums ++ (b .least ∷ b .most ∷ ns))) depth column (length sums) ≡ figure b

@@ -1,0 +1,11 @@
+pub mod SeriesSteps
+pub mod LeadSteps
+pub mod Signed
+pub mod Dominance
+pub mod LeadLaws
+pub mod KeptLaws
+pub mod FlatLaws
+pub mod ArmSizes
+pub mod LoopSettled
+pub mod BodySteps
+pub mod Examples

@@ -1,0 +1,4 @@
+pub mod Series
+pub mod Lead
+pub mod Settled
+pub mod Body
