@@ -86,7 +86,7 @@ def arms_by_trips(body: Body, indexes: list[int], parameters: Parameters) -> lis
     """Least and most of each arm of the choices directly in a body."""
     choices = [node for node in body if isinstance(node, ChoiceNode)]
     meter = trips.Meter(TRIPS_OF_ARMS)
-    return [[trips.body_time(arm, indexes, parameters, meter) for arm in choice.arms] for choice in choices]
+    return [[trips.every_trip(arm, indexes, parameters, meter) for arm in choice.arms] for choice in choices]
 
 
 def check_visit_bound(records: list[Record], parameters: Parameters, visits: int) -> None:

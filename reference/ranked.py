@@ -7,12 +7,9 @@ from typing import NamedTuple
 from generate import Case, work
 from nest import Range, difference_of, index_range
 from pumdalin.inputs import Parameters
-from pumdalin.records import (
-    INDEX_FACTORS, MOST_LOOPS_DEEP, MOST_RECORDS, Choice, End, Form, Loop, NextArm, Record, Work, encode_all,
-)
-from walked import Aim, nested_loop
+from pumdalin.records import INDEX_FACTORS, MOST_LOOPS_DEEP, Choice, End, Form, Loop, NextArm, Record, Work
+from walked import Aim, fitting, nested_loop, nests_case
 
-BUDGET = 2000
 # Every loop inside passes the tests for closing.
 PASSES = Aim(0, 0, 0)
 # One in so many sheets has a loop that fails a test, or a choice in an arm that holds a loop.
@@ -206,19 +203,19 @@ def ranked_nest(random: Random, place: Place, loops_around: int) -> list[Record]
     return [loop, *inside, *random.choice([[], [work(random)]]), End()]
 
 
+def ranked_nests(random: Random, parameters: Parameters) -> list[Record]:
+    """A nest, or two."""
+    records: list[Record] = []
+    for _ in range(random.choice([1, 1, 1, 2])):
+        height = random.choice([1, 1, 1, 2, 2, 3])
+        around = random.choice([0, MOST_LOOPS_DEEP - 1 - height, random.randint(0, MOST_LOOPS_DEEP - 1 - height)])
+        records += ranked_nest(random, Place(parameters, [], height, random.random() < 0.5), around)
+    return records
+
+
 def ranked_records(random: Random, parameters: Parameters) -> list[Record]:
-    """A nest, or two; made again where they have too many records."""
-    while True:
-        records: list[Record] = []
-        for _ in range(random.choice([1, 1, 1, 2])):
-            height = random.choice([1, 1, 1, 2, 2, 3])
-            around = random.choice([0, MOST_LOOPS_DEEP - 1 - height, random.randint(0, MOST_LOOPS_DEEP - 1 - height)])
-            records += ranked_nest(random, Place(parameters, [], height, random.random() < 0.5), around)
-        if len(records) <= MOST_RECORDS:
-            return records
+    return fitting(lambda: ranked_nests(random, parameters))
 
 
 def ranked_case(random: Random) -> Case:
-    largest = random.choice([0, 3, 10])
-    parameters = tuple(random.randint(-largest, largest) for _ in range(4))
-    return Case("ranked", encode_all(ranked_records(random, parameters)), parameters, BUDGET)
+    return nests_case("ranked", random, ranked_records)

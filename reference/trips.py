@@ -1,6 +1,6 @@
 """The trip by trip reckoning: times by going over every trip."""
 
-from typing import NamedTuple
+from typing import Callable, NamedTuple
 
 from nest import difference_of, trips_for, value
 from pumdalin.inputs import Parameters
@@ -62,28 +62,31 @@ def index_of(loop: Loop, counter: int, indexes: list[int], parameters: Parameter
     return value(loop.lower, indexes, parameters) + counter * loop.stride
 
 
-def body_time(body: Body, indexes: list[int], parameters: Parameters, meter: Meter) -> Bounds:
-    """What follows one another adds up."""
+def body_time(body: Body, time_of: Callable[[LoopNode], Bounds]) -> Bounds:
+    """What follows one another adds up, where `time_of` has what a loop takes."""
     total = NOTHING
     for node in body:
         if isinstance(node, Work):
             total = total.plus(Bounds(node.least, node.most))
         elif isinstance(node, LoopNode):
-            total = total.plus(loop_time(node, indexes, parameters, meter))
+            total = total.plus(time_of(node))
         else:
-            total = total.plus(choice_time(node, indexes, parameters, meter))
+            total = total.plus(choice_time(node, time_of))
     return total
 
 
-def choice_time(
-    choice: ChoiceNode, indexes: list[int], parameters: Parameters, meter: Meter
-) -> Bounds:
+def choice_time(choice: ChoiceNode, time_of: Callable[[LoopNode], Bounds]) -> Bounds:
     """The smallest least and the largest most of the arms."""
-    arms = [body_time(arm, indexes, parameters, meter) for arm in choice.arms]
+    arms = [body_time(arm, time_of) for arm in choice.arms]
     total = arms[0]
     for arm in arms[1:]:
         total = total.or_arm(arm)
     return total
+
+
+def every_trip(body: Body, indexes: list[int], parameters: Parameters, meter: Meter) -> Bounds:
+    """What a body takes, by every trip of its loops."""
+    return body_time(body, lambda node: loop_time(node, indexes, parameters, meter))
 
 
 def loop_time(node: LoopNode, indexes: list[int], parameters: Parameters, meter: Meter) -> Bounds:
@@ -93,18 +96,18 @@ def loop_time(node: LoopNode, indexes: list[int], parameters: Parameters, meter:
     for counter in range(trip_count):
         meter.add_one()
         index = index_of(node.loop, counter, indexes, parameters)
-        total = total.plus(body_time(node.body, indexes + [index], parameters, meter))
+        total = total.plus(every_trip(node.body, indexes + [index], parameters, meter))
         total = total.plus(both(node.loop.step))
     return total
 
 
 def time(records: list[Record], parameters: Parameters, limit: int) -> Bounds:
     """Least and most of a sheet, trip by trip; TooMany if it takes more trips than `limit`."""
-    return body_time(tree(records), [], parameters, Meter(limit))
+    return every_trip(tree(records), [], parameters, Meter(limit))
 
 
 def trips(records: list[Record], parameters: Parameters, limit: int) -> int:
     """The trips that the reckoning above goes over, those of inner loops included."""
     meter = Meter(limit)
-    body_time(tree(records), [], parameters, meter)
+    every_trip(tree(records), [], parameters, meter)
     return meter.count

@@ -3,10 +3,10 @@
 from nest import LoopFacts, facts
 from newton import newton_sum
 from pumdalin.inputs import Parameters
-from pumdalin.records import Record, Work
+from pumdalin.records import Record
 from ranking import Choices, settled
 from tree import Body, ChoiceNode, LoopNode, choices_directly_in, tree
-from trips import NOTHING, Bounds, Meter, both, entry_cost, index_of, trips_of
+from trips import Bounds, Meter, body_time, both, entry_cost, index_of, trips_of
 
 
 def first_trips(trip_count: int, fact: LoopFacts) -> int:
@@ -36,18 +36,7 @@ def choices_at(
 
 def arm_time(body: Body, indexes: list[int], parameters: Parameters, known: dict[int, LoopFacts]) -> Bounds:
     """What a body takes in which all loops are closed. Their first trips stand for all, since these can be too many."""
-    total = NOTHING
-    for node in body:
-        if isinstance(node, Work):
-            total = total.plus(Bounds(node.least, node.most))
-        elif isinstance(node, LoopNode):
-            total = total.plus(closed_loop_time(node, indexes, parameters, known))
-        else:
-            first, *others = [arm_time(arm, indexes, parameters, known) for arm in node.arms]
-            for other in others:
-                first = first.or_arm(other)
-            total = total.plus(first)
-    return total
+    return body_time(body, lambda node: closed_loop_time(node, indexes, parameters, known))
 
 
 def closed_loop_time(

@@ -2,7 +2,7 @@
 
 from dataclasses import replace
 from random import Random
-from typing import NamedTuple
+from typing import Callable, NamedTuple
 
 import generate
 from directions import turned_at_times
@@ -88,22 +88,34 @@ def in_choice(random: Random, arm: list[Record]) -> list[Record]:
     return [Choice(), *random.choice([arm, [*other, NextArm(), *arm], [*arm, NextArm(), *other]]), End()]
 
 
-def walked_records(random: Random, parameters: Parameters) -> list[Record]:
-    """One or two nests, after works at times; made again where they have too many records.
-
-    A few have more than eight records open together, so that they are refused.
-    """
-    aim = random.choice(AIMS)
+def fitting(make: Callable[[], list[Record]]) -> list[Record]:
+    """What is made, and made again where it has too many records."""
     while True:
-        # after 64 works the nests stand beyond the limit of records before document 02, C-19
-        records: list[Record] = [work(random)] * random.choice([0, 0, 0, 1, 20, 64])
-        for _ in range(random.choice([1, 1, 2])):
-            records += nest(random, aim, [], parameters)
+        records = make()
         if len(records) <= MOST_RECORDS:
             return records
 
 
-def walked_case(random: Random) -> Case:
+def nests_case(kind: str, random: Random, nests: Callable[[Random, Parameters], list[Record]]) -> Case:
+    """Nests at small parameters."""
     largest = random.choice([0, 3, 10])
     parameters = tuple(random.randint(-largest, largest) for _ in range(4))
-    return Case("walked", encode_all(walked_records(random, parameters)), parameters, BUDGET)
+    return Case(kind, encode_all(nests(random, parameters)), parameters, BUDGET)
+
+
+def walked_nests(random: Random, aim: Aim, parameters: Parameters) -> list[Record]:
+    """One or two nests, after works at times. A few have more than eight records open together, so that they are refused."""
+    # after 64 works the nests stand beyond the limit of records before document 02, C-19
+    records: list[Record] = [work(random)] * random.choice([0, 0, 0, 1, 20, 64])
+    for _ in range(random.choice([1, 1, 2])):
+        records += nest(random, aim, [], parameters)
+    return records
+
+
+def walked_records(random: Random, parameters: Parameters) -> list[Record]:
+    aim = random.choice(AIMS)
+    return fitting(lambda: walked_nests(random, aim, parameters))
+
+
+def walked_case(random: Random) -> Case:
+    return nests_case("walked", random, walked_records)
