@@ -15,7 +15,7 @@ use Rattle.meaning.specs.Tree.{tree}
 use Rattle.meaning.proofs.Answers.{BudgetInRange, answer-figures, answer-spent}
 use Rattle.sheet.specs.Sheets.{recordsOf}
 use Rattle.layout.specs.Numbers.{arrayOf}
-use Rattle.layout.specs.Loops.{differencesLength, factsLength, loopLimit}
+use Rattle.layout.specs.Loops.{differencesLength, factsLength, limitsLength}
 use Rattle.layout.specs.Rows.{rowsLength}
 use Rattle.nest.specs.Rows.{rowsStored}
 use Rattle.loops.specs.Facts.{factsStored, sheetFacts, withinCeiling, wordsStored}
@@ -44,7 +44,7 @@ module _ (sheet : List ℕ) (ps : List ℤ) (small : SmallParameters ps) (rs : L
     (r : rows ≡ arrayOf rowsLength (rowsStored (recordsOf sheet)))
     (w : differences ≡ arrayOf differencesLength (wordsStored (withinCeiling (sheetFacts ps (recordsOf sheet)))))
     (f : facts ≡ arrayOf factsLength (factsStored (withinCeiling (sheetFacts ps (recordsOf sheet)))))
-    (l : limits ≡ arrayOf loopLimit (limitsIn (planOf sheet ps))) {count : ℕ} (n : count ≡ length rs) where
+    (l : limits ≡ arrayOf limitsLength (limitsIn (planOf sheet ps))) {count : ℕ} (n : count ≡ length rs) where
   pub planned : Planned rows differences limits count
   planned = record {
     sheet = sheet;

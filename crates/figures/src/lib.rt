@@ -10,11 +10,11 @@ ghost use Rattle.figures.specs.Demand.{Answered};
 use crate::repeat::figures_of;
 use crate::repeat::repeat_stages;
 use form::Parameters;
-use layout::MAX_LOOPS;
 use layout::differences::DIFFERENCE_WORDS;
 use layout::differences::Differences;
 use layout::facts::FACT_NUMBERS;
 use layout::facts::Facts;
+use layout::limits::LIMIT_NUMBERS;
 use layout::limits::Limits;
 use layout::rows::ROW_NUMBERS;
 use layout::rows::Rows;
@@ -51,7 +51,7 @@ pub fn cycles(sheet: &[u8], parameters: Parameters, budget: u32) -> Answer
     let mut rows: Rows = [0; ROW_NUMBERS];
     let mut differences: Differences = [0; DIFFERENCE_WORDS];
     let mut facts: Facts = [0; FACT_NUMBERS];
-    let mut limits: Limits = [0; MAX_LOOPS];
+    let mut limits: Limits = [0; LIMIT_NUMBERS];
     let planned = plan(
         sheet,
         parameters,

@@ -1,7 +1,7 @@
 -- What the parameters make of each loop, as numbers: differences, facts and limits, and these read by position.
 use mathlib.Core.List.{List, [], _∷_}
-use mathlib.Core.Bool.{Bool, cond, not}
-use Prim.Native.Nat.{ℕ, _+_, _*_, _/_, _%_, _^_}
+use mathlib.Core.Bool.{Bool, cond, not, _&&_}
+use Prim.Native.Nat.{ℕ, _+_, _*_, _/_, _%_, _^_, max}
 use lib.IntN.{ℤ, pos}
 use lib.Dec.{eqb, ltb}
 use lib.ListN.{getD}
@@ -80,7 +80,10 @@ module _ (facts : List ℕ) (j : ℕ) where
   abbrev pub enoughAt : Bool
   enoughAt = not (eqb (factIn facts j 3) 0)
 
--- ---- limits
+-- ---- limits: the largest of the numbers that are stored of the loops, then these numbers
+
+abbrev pub limitsLength : ℕ
+limitsLength = 1 + loopLimit
 
 -- added to the limit of a ranked loop: above every limit, which is a loop's height + 1
 abbrev pub rankedMark : ℕ
@@ -90,10 +93,28 @@ rankedMark = 8
 unfoldable pub limitNumber : Bool → ℕ → ℕ
 limitNumber ranked limit = limit % rankedMark + cond ranked rankedMark 0
 
-module _ (limits : List ℕ) (j : ℕ) where
-  -- how many trips the loop visits at most where the rest may be summed, it being closed or ranked; 0 where it is walked
-  unfoldable pub limitAt : ℕ
-  limitAt = getD limits (j % loopLimit) 0 % rankedMark
+-- the largest of the numbers; 0 where there is none
+unfoldable pub largest : List ℕ → ℕ
+largest [] = 0
+largest (n ∷ ns) = max n (largest ns)
 
-  unfoldable pub rankedAt : Bool
-  rankedAt = not (ltb (getD limits (j % loopLimit) 0) rankedMark)
+-- as they are stored
+unfoldable pub withLargest : List ℕ → List ℕ
+withLargest numbers = largest numbers ∷ numbers
+
+-- where the number of loop j is
+abbrev pub limitFrom : ℕ → ℕ
+limitFrom j = 1 + j % loopLimit
+
+module _ (limits : List ℕ) where
+  -- whether any loop is ranked
+  unfoldable pub someRanked : Bool
+  someRanked = not (ltb (getD limits 0 0) rankedMark)
+
+  module _ (j : ℕ) where
+    -- how many trips the loop visits at most where the rest may be summed, it being closed or ranked; 0 where it is walked
+    unfoldable pub limitAt : ℕ
+    limitAt = getD limits (limitFrom j) 0 % rankedMark
+
+    unfoldable pub rankedAt : Bool
+    rankedAt = someRanked && not (ltb (getD limits (limitFrom j) 0) rankedMark)

@@ -9,7 +9,8 @@ use borrow.Author.Tests.{eq-eqb, ne-eqb, lt-ltb, le-ltb}
 use Rattle.meaning.specs.Limits.{depthLimit}
 use Rattle.layout.specs.Rows.{roleNumber, loopRole, endRole, choiceRole}
 use Rattle.layout.specs.Rows.{roleAt, enclosingAt, openerAt, frameAt, depthAt, loopAt}
-use Rattle.layout.specs.Loops.{rankedAt}
+use Rattle.layout.specs.Loops.{someRanked, rankedAt}
+use Rattle.layout.proofs.Reading.{ranked-by}
 use Rattle.state.specs.Open.{OpenParts, withFrames, withArms, counterAt}
 use Rattle.state.specs.Sums.{fromZero}
 use Rattle.state.specs.Frames.{frameOpened, frameLeft, passedAround, armPassed}
@@ -107,6 +108,11 @@ module _ (rows limits : List ℕ) (choice : ℕ) (parts : OpenParts) where
           pub trip-tested : {counter limit : ℕ} → depth < depthLimit → counter ≡ counterAt parts depth → limit ≡ limitWithin limits number depth
               → ltb counter limit ≡ keeps
           trip-tested h c w = let t = tests in let m = lt-ltb (depthAt rows around) depthLimit (omega arith) in cc (i, l)
+
+  -- where no loop is ranked, none of it need be asked
+  pub none-kept : (sums : List ℕ) {some : Bool} → some ≡ someRanked limits → some ≡ false → parts ≡ openArmKept rows limits choice sums parts
+  unfolding openArmKept keepsArmsAt
+  none-kept sums a e = let k = ranked-by limits (loopAt rows (openerAt rows choice)) a e in cc
 
   module _ (sums : List ℕ) {kept : Bool} (k : kept ≡ keeps) where
     pub arm-kept : {after : OpenParts} → kept ≡ true → after ≡ withArms parts (armKept (parts .arms) sums) → after ≡ openArmKept rows limits choice sums parts

@@ -1,3 +1,4 @@
 pub mod StraightLaws
 pub mod ChoiceLaws
 pub mod LoopLaws
+pub mod RankedEnds

@@ -2,12 +2,12 @@
 use mathlib.Core.Path.{_≡_, refl, sym, ap, _∙_}
 use mathlib.Core.Bool.{Bool, true, false, not, _&&_, cond}
 use mathlib.Core.List.{List, [], _∷_}
-use Prim.Native.Nat.{ℕ, zero, suc, _+_, _-_, _/_, _^_, _<_, _≤_, min}
+use Prim.Native.Nat.{ℕ, zero, suc, _+_, _-_, _/_, _%_, _^_, _<_, _≤_, min}
 use native.Mathlib.Omega.{arith}
 use native.Mathlib.Nat.{min-eq-left}
 use native.Mathlib.Numerals.{add-one}
 use lib.Dec.{ltb}
-use borrow.Author.Tests.{eq-eqb, ne-eqb, ltb-true, ltb-false}
+use borrow.Author.Tests.{eq-eqb, ne-eqb, ltb-true}
 use Rattle.whole.specs.Integer.{floorRemainder}
 use Rattle.meaning.specs.Limits.{depthLimit, ceilingLimit}
 use Rattle.meaning.proofs.Logic.{T-and, T→true, true→T, true-is-not-false}
@@ -19,15 +19,15 @@ use Rattle.ranking.specs.Body.{settledAt}
 use Rattle.state.specs.Open.{OpenParts, withFrames, withKept, withArms, counterAt, withCounter}
 use Rattle.state.specs.Sums.{leastColumn, mostColumn, leastOf, mostOf, visitsOf, added, visitBegins}
 use Rattle.state.specs.Frames.{frameOpened, frameLeft, sumsAround, passedAround, tripPassed}
-use Rattle.state.specs.Kept.{tripKept, heldTrips, firstTrips, tripsSum, forgotten}
+use Rattle.state.specs.Kept.{tripKept, heldTrips, keptTotal, firstTrips, tripsSum, forgotten}
 use Rattle.state.specs.Arms.{armCountIn, armNumbersIn, armsDropped}
-use Rattle.trips.specs.Trips.{tripsAt, limitNow, visitedBy}
+use Rattle.trips.specs.Trips.{tripsAt, limitWithin, visitedBy}
 use Rattle.state.specs.States.{StateParts, stateWith}
-use Rattle.trips.proofs.TripLaws.{trips-few, limit-few, closed-visits, walked-visits}
+use Rattle.trips.proofs.TripLaws.{trips-few, limit-few, closed-visits}
 use Rattle.passing.specs.declared.loops.Outcome.{Outcome}
 use Rattle.passing.specs.Pass.{Passage, goesOn, begins, enterWith, enterLoop}
-use Rattle.passing.specs.Pass.{summedTrips, tripJoined, nextParts, unsettledParts, leftParts, leftSums, armsLeft, goesUnsettled}
-use Rattle.passing.specs.Pass.{AfterTrip, furtherTrip, unsettledTrip, loopLeft, endTripWhere, endTrip, passLoopWhere, passLoop}
+use Rattle.passing.specs.Pass.{summedTrips, tripJoined, nextParts, leftParts, leftSums, keptJoined, keptDropped, armsLeft, goesUnsettled}
+use Rattle.passing.specs.Pass.{AfterTrip, furtherTrip, unsettledTrip, loopLeft, endTripWhere, endTrip, endTripBy, passLoopWhere, passLoop}
 
 -- the sum of n trips, from their weights and the first ones
 sum-made : (n held : ℕ) {trips firsts : List ℕ} {w : Weights} {r : ℕ}
@@ -95,14 +95,19 @@ module _ (around frame : ℕ) (sums : List ℕ) (parts : OpenParts) where
         let r : after ≡ leftParts around frame sums parts (suc (limit - 1)) = cc in
         (q ∙ ap (λ (m : ℕ). leftSums around frame sums parts m n) (sym positive), r ∙ ap (leftParts around frame sums parts) (sym positive))
 
-  -- of a ranked loop that goes on unsettled
-  pub unsettled-on :
-      {counter : ℕ} (limit : ℕ) {start passed forgot after : OpenParts} {held : ℕ} {visited : List ℕ} → counter ≡ counterAt parts around
-      → held ≡ min counter (limit - 1) → visited ≡ summedTrips around sums parts (counter + 1) held → start ≡ withCounter parts around (counter + 1)
-      → passed ≡ withFrames start (tripPassed (start .frames) frame visited) → forgot ≡ withKept passed (forgotten (passed .kept) around held)
-      → after ≡ withArms forgot (armsDropped (forgot .arms)) → after ≡ unsettledParts around frame sums parts limit
-  unfolding unsettledParts heldTrips
-  unsettled-on limit c h v s p f a = cc (add-one (counterAt parts around))
+-- of a loop whose kept trips join the open one
+module _ (around held : ℕ) (parts : OpenParts) where
+  pub kept-joins :
+      (sums : List ℕ) {least most : ℕ} {after : List ℕ} → least ≡ keptTotal (parts .kept) around leastColumn held % 2 ^ 64
+      → most ≡ keptTotal (parts .kept) around mostColumn held % 2 ^ 64 → after ≡ added sums least most → after ≡ keptJoined around held parts sums
+  unfolding keptJoined
+  kept-joins sums l m a = cc
+
+  pub kept-drops :
+      {forgot after : OpenParts} → forgot ≡ withKept parts (forgotten (parts .kept) around held) → after ≡ withArms forgot (armsDropped (forgot .arms))
+      → after ≡ keptDropped around held parts
+  unfolding keptDropped
+  kept-drops f a = a ∙ ap (λ (p : OpenParts). withArms p (armsDropped (p .arms))) f
 
 -- of a loop that is left
 module _ (parts : OpenParts) {ranked : Bool} where
@@ -116,15 +121,11 @@ module _ (parts : OpenParts) {ranked : Bool} where
 
 -- ---- whether the choices are unsettled, test by test
 
-module _ (rows : List ℕ) (ranked : Bool) (opener n counter : ℕ) (arms : List ℕ) where
+module _ (rows : List ℕ) (opener n counter : ℕ) (arms : List ℕ) where
   abbrev goes : Bool
-  goes = goesUnsettled rows ranked opener n counter arms
+  goes = goesUnsettled rows true opener n counter arms
 
-  pub unranked-settles : ranked ≡ false → false ≡ goes
-  unfolding goesUnsettled
-  unranked-settles e = cc
-
-  module _ (yes : ranked ≡ true) {b : Bool} (f : b ≡ ltb (suc counter) n) where
+  module _ {b : Bool} (f : b ≡ ltb (suc counter) n) where
     pub last-settles : b ≡ false → false ≡ goes
     unfolding goesUnsettled
     last-settles e = cc
@@ -139,8 +140,7 @@ module _ (rows : List ℕ) (ranked : Bool) (opener n counter : ℕ) (arms : List
   pub unsettled-follows : {u : Bool} → u ≡ goes → u ≡ true → suc counter < n
   unfolding goesUnsettled
   unsettled-follows e t =
-      let all = T-and ranked (ltb (suc counter) n && unsettled) (true→T (ranked && (ltb (suc counter) n && unsettled)) (sym e ∙ t)) in
-      ltb-true (suc counter) n (T→true (ltb (suc counter) n) (T-and (ltb (suc counter) n) unsettled (all .1) .0))
+      ltb-true (suc counter) n (T→true (ltb (suc counter) n) (T-and (ltb (suc counter) n) unsettled (true→T (ltb (suc counter) n && unsettled) (sym e ∙ t)) .0))
     where
       unsettled : Bool
       unsettled = not (settledAt rows opener (armNumbersIn arms) (suc counter) (armCountIn arms / suc counter))
@@ -153,9 +153,9 @@ counts-on counter visited e t = ltb-true (suc counter) visited (sym e ∙ t)
 
 -- a loop's limit and the loops around it
 pub limit-below :
-    (limits : List ℕ) (number depth counter : ℕ) {around limit : ℕ} → depth ≤ depthLimit → around ≡ depth - 1
-    → limit ≡ limitNow limits number around counter → limit + around ≤ depthLimit
-limit-below limits number depth counter {around} h d l = let few = limit-few limits number around counter (omega arith) in omega arith
+    (limits : List ℕ) (number depth : ℕ) (walked : Bool) {around limit : ℕ} → depth ≤ depthLimit → around ≡ depth - 1
+    → limit ≡ cond walked 0 (limitWithin limits number around) → limit + around ≤ depthLimit
+limit-below limits number depth walked {around} h d l = let few = limit-few limits number around walked (omega arith) in omega arith
 
 pub has-room :
     (counter n around : ℕ) {limit visited : ℕ} {b : Bool}
@@ -171,22 +171,12 @@ pub leaves-within :
     → (around < depthLimit) × ((limit + around ≤ depthLimit) × (n ≤ ceilingLimit))
 leaves-within differences counters number depth limit h d t l = let few = trips-few differences counters number in omega arith
 
--- what going on unsettled asks: a trip follows, and yet none is to be visited for the limit, so that this is not 0
-pub unsettled-within :
-    (counter : ℕ) {around n limit visited : ℕ} {b : Bool}
-    → (around < depthLimit) × ((limit + around ≤ depthLimit) × (n ≤ ceilingLimit)) → visited ≡ visitedBy limit n → b ≡ ltb (suc counter) visited
-    → b ≡ false → suc counter < n
-    → (around < depthLimit) × (((limit ≡ 0 → ⊥) × (limit + around ≤ depthLimit)) × (counter < ceilingLimit))
-unsettled-within counter {n = n} {limit = limit} {visited = visited} w v e t more =
-    let last = ltb-false (suc counter) visited (sym e ∙ t) in
-    let some : limit ≡ 0 → ⊥ = λ z. let all = walked-visits n z in omega arith in
-    (w .0, ((some, w .1 .0), omega (arith, w .1 .1)))
-
-module _ (rows differences limits : List ℕ) (depth at : ℕ) (sums : List ℕ) (parts : OpenParts)
+module _ (rows differences limits : List ℕ) (depth at : ℕ) (walked : Bool) (sums : List ℕ) (parts : OpenParts) {whole : Passage}
     {opener frame number around n limit step counter visited : ℕ} {inside : List ℕ} {b : Bool}
+    (w : whole ≡ endTripBy rows differences limits depth (cond walked 0 (limitWithin limits (loopAt rows (openerAt rows at)) (depth - 1))) (stateWith at sums parts))
     (o : opener ≡ openerAt rows at) (f : frame ≡ frameAt rows opener) (j : number ≡ loopAt rows opener) (d : around ≡ depth - 1)
     (t : n ≡ tripsAt differences (parts .counters) number) (p : step ≡ secondAt rows opener) (a : inside ≡ added sums step step)
-    (c : counter ≡ counterAt parts around) (l : limit ≡ limitNow limits number around counter)
+    (c : counter ≡ counterAt parts around) (l : limit ≡ cond walked 0 (limitWithin limits number around))
     (v : visited ≡ visitedBy limit n) (e : b ≡ ltb (suc counter) visited) where
   abbrev s : StateParts
   s = stateWith at sums parts
@@ -194,41 +184,27 @@ module _ (rows differences limits : List ℕ) (depth at : ℕ) (sums : List ℕ)
   abbrev ends : AfterTrip → Bool → Passage
   ends next ranked = endTripWhere rows depth next ranked opener limit n inside s
 
-  trip-ends :
-      {ranked u : Bool} → ranked ≡ rankedAt limits number → u ≡ goesUnsettled rows ranked opener n counter (parts .arms)
-      → endTrip rows differences limits depth s ≡ ends (cond b furtherTrip (cond u unsettledTrip loopLeft)) ranked
-  unfolding endTrip
-  trip-ends r u = cc
+  trip-ends : {ranked : Bool} → ranked ≡ rankedAt limits number → whole ≡ ends (cond b furtherTrip loopLeft) ranked
+  unfolding endTripBy
+  trip-ends r = cc
 
   pub trip-follows :
       {passed after : OpenParts} {visit : List ℕ} → b ≡ true → passed ≡ tripJoined around frame inside parts limit
       → after ≡ withCounter passed around (counter + 1) → visit ≡ visitBegins inside
-      → endTrip rows differences limits depth s ≡ begins depth (stateWith (opener + 1) visit after)
+      → whole ≡ begins depth (stateWith (opener + 1) visit after)
   unfolding endTripWhere nextParts
   trip-follows h q r z =
-      let ranked : Bool = rankedAt limits number in
-      let u : Bool = goesUnsettled rows ranked opener n counter (parts .arms) in
-      trip-ends refl refl ∙ ap (λ (b : Bool). ends (cond b furtherTrip (cond u unsettledTrip loopLeft)) ranked) h ∙ cc
+      trip-ends refl ∙ ap (λ (b : Bool). ends (cond b furtherTrip loopLeft) (rankedAt limits number)) h ∙ cc
 
-  module _ (last : b ≡ false) {ranked u : Bool} (r : ranked ≡ rankedAt limits number)
-      (g : u ≡ goesUnsettled rows ranked opener n counter (parts .arms)) where
-    last-ends : endTrip rows differences limits depth s ≡ ends (cond u unsettledTrip loopLeft) ranked
-    last-ends = trip-ends r g ∙ ap (λ (b : Bool). ends (cond b furtherTrip (cond u unsettledTrip loopLeft)) ranked) last
-
-    pub trip-unsettled :
-        {after : OpenParts} {visit : List ℕ} → u ≡ true → after ≡ unsettledParts around frame inside parts limit → visit ≡ visitBegins inside
-        → endTrip rows differences limits depth s ≡ begins depth (stateWith (opener + 1) visit after)
-    unfolding endTripWhere
-    trip-unsettled h q z = last-ends ∙ ap (λ (u : Bool). ends (cond u unsettledTrip loopLeft) ranked) h ∙ cc
-
-    pub trip-leaves :
-        {left after : OpenParts} {outside : List ℕ} → u ≡ false
-        → (outside ≡ leftSums around frame inside parts limit n) × (left ≡ leftParts around frame inside parts limit) → after ≡ armsLeft ranked left
-        → endTrip rows differences limits depth s ≡ goesOn around (stateWith (at + 1) outside after)
-    unfolding endTripWhere
-    trip-leaves h q k =
-        let x = q .0 in let y = q .1 in
-        last-ends ∙ ap (λ (u : Bool). ends (cond u unsettledTrip loopLeft) ranked) h ∙ cc
+  pub trip-leaves :
+      {ranked : Bool} {left after : OpenParts} {outside : List ℕ} → b ≡ false
+      → (outside ≡ leftSums around frame inside parts limit n) × (left ≡ leftParts around frame inside parts limit)
+      → ranked ≡ rankedAt limits number → after ≡ armsLeft ranked left
+      → whole ≡ goesOn around (stateWith (at + 1) outside after)
+  unfolding endTripWhere
+  trip-leaves {ranked} h q r k =
+      let x = q .0 in let y = q .1 in
+      trip-ends r ∙ ap (λ (b : Bool). ends (cond b furtherTrip loopLeft) ranked) h ∙ cc
 
 -- the answer where a trip opens
 pub trip-answered :

@@ -1,7 +1,7 @@
 -- Passing a record, on a plan's numbers.
 use mathlib.Core.List.{List, [], _∷_}
 use mathlib.Core.Bool.{Bool, true, false, not, _&&_, cond}
-use Prim.Native.Nat.{ℕ, zero, suc, _+_, _-_, _/_}
+use Prim.Native.Nat.{ℕ, zero, suc, _+_, _-_, _/_, _%_, _^_}
 use lib.Dec.{ltb, eqb}
 use Rattle.meaning.specs.Limits.{depthLimit}
 use Rattle.layout.specs.Rows.{roleNumber, straightRole, loopRole, endRole, choiceRole}
@@ -11,7 +11,7 @@ use Rattle.ranking.specs.Body.{settledAt}
 use Rattle.state.specs.Open.{OpenParts, withFrames, withKept, withArms, counterAt, withCounter}
 use Rattle.state.specs.Sums.{wrappedSum, leastColumn, mostColumn, leastOf, mostOf, visitsOf, withSums, added, fromZero, visitBegins}
 use Rattle.state.specs.Frames.{frameOpened, frameLeft, sumsAround, passedAround, armPassed, tripPassed}
-use Rattle.state.specs.Kept.{tripKept, heldTrips, firstTrips, tripsSum, forgotten}
+use Rattle.state.specs.Kept.{tripKept, heldTrips, keptTotal, firstTrips, tripsSum, forgotten}
 use Rattle.state.specs.Arms.{armCountIn, armNumbersIn, armKept, armsDropped}
 use Rattle.trips.specs.Trips.{tripsAt, limitWithin, limitNow, visitedBy}
 use Rattle.state.specs.States.{StateParts, stateWith}
@@ -158,6 +158,15 @@ module _ (around frame : ℕ) (sums : List ℕ) (parts : OpenParts) where
       let trips : List ℕ = summedTrips around sums parts n (heldTrips (suc limit) (counterAt parts around)) in
       sumsAround (parts .frames) frame (leastOf trips) (mostOf trips) sums
 
+-- the kept trips of a loop join the open one, which has these sums
+unfoldable pub keptJoined : ℕ → ℕ → OpenParts → List ℕ → List ℕ
+keptJoined around held parts sums =
+    added sums (keptTotal (parts .kept) around leastColumn held % 2 ^ 64) (keptTotal (parts .kept) around mostColumn held % 2 ^ 64)
+
+-- none of them is kept then, and none of their arms
+unfoldable pub keptDropped : ℕ → ℕ → OpenParts → OpenParts
+keptDropped around held parts = withArms (withKept parts (forgotten (parts .kept) around held)) (armsDropped (parts .arms))
+
 -- the arms of a ranked loop that is left are dropped
 unfoldable pub armsLeft : Bool → OpenParts → OpenParts
 armsLeft ranked parts = cond ranked (withArms parts (armsDropped (parts .arms))) parts
@@ -196,6 +205,14 @@ module _ (rows differences limits : List ℕ) (depth : ℕ) where
       cond (ltb (suc counter) (visitedBy limit n)) furtherTrip
       (cond (goesUnsettled rows ranked opener n counter (s .parts .arms)) unsettledTrip loopLeft) in
       endTripWhere rows depth next ranked opener limit n (added (s .sums) (secondAt rows opener) (secondAt rows opener)) s
+
+  -- the same of a loop that is walked or closed, with this limit: a further trip opens, or the loop is left
+  unfoldable pub endTripBy : ℕ → StateParts → Passage
+  endTripBy limit s =
+      let opener : ℕ = openerAt rows (s .at) in
+      let n : ℕ = tripsAt differences (s .parts .counters) (loopAt rows opener) in
+      let next : AfterTrip = cond (ltb (suc (counterAt (s .parts) (depth - 1))) (visitedBy limit n)) furtherTrip loopLeft in
+      endTripWhere rows depth next (rankedAt limits (loopAt rows opener)) opener limit n (added (s .sums) (secondAt rows opener) (secondAt rows opener)) s
 
   unfoldable pub passLoopWhere : Bool → StateParts → Passage
   passLoopWhere true s = enterLoop rows differences depth s

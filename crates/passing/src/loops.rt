@@ -1,16 +1,19 @@
 // Passing a loop's record, or its end.
 ghost use mathlib.Core.Path.{_≡_};
-ghost use mathlib.Core.Bool.{true};
+ghost use mathlib.Core.Bool.{true, cond};
 ghost use Prim.Native.Nat.{suc, _+_, _-_, _<_, _≤_};
 ghost use Rattle.meaning.specs.Limits.{recordLimit, depthLimit, ceilingLimit};
 ghost use Rattle.state.specs.Open.{partsIn, armsIn, counterAt};
 ghost use Rattle.state.specs.Sums.{visitBegins};
 ghost use Rattle.state.specs.States.{stateIn};
-ghost use Rattle.passing.specs.Pass.{tripJoined, summedTrips, unsettledParts, leftParts, leftSums};
-ghost use Rattle.passing.specs.Pass.{goesUnsettled, armsLeft, endTrip, enterLoop, passLoop};
+ghost use Rattle.layout.specs.Rows.{openerAt, loopAt};
+ghost use Rattle.trips.specs.Trips.{limitWithin};
+ghost use Rattle.passing.specs.Pass.{tripJoined, summedTrips, leftParts, leftSums, keptJoined, keptDropped};
+ghost use Rattle.passing.specs.Pass.{goesUnsettled, armsLeft, endTrip, endTripBy, enterLoop, passLoop};
 use layout::differences::Differences;
 use layout::limits::Limits;
 use layout::limits::ranked_at;
+use layout::limits::some_ranked;
 use layout::rows::LOOP;
 use layout::rows::Rows;
 use layout::rows::after_end_at;
@@ -34,6 +37,7 @@ use state::frames::pass_trip;
 use state::kept::first_trips;
 use state::kept::forget;
 use state::kept::keep;
+use state::kept::kept_sum;
 use state::open::Open;
 use state::open::counter_at;
 use state::open::put_counter;
@@ -45,7 +49,8 @@ use state::sums::add;
 use state::sums::begin_visit;
 use state::sums::smaller;
 use trips::further;
-use trips::limit_now;
+use trips::limit_unless;
+use trips::limit_within;
 use trips::trips_at;
 use trips::visited_by;
 
@@ -83,28 +88,6 @@ fn sum_trips(opened: &Open, around: usize, held: u64, trips: u64, sums: Sums) ->
     [least, most, sums[VISITS]]
 }
 
-// A ranked loop goes on with its choices unsettled: the sum of the trips visited takes their place, and their arms are dropped.
-fn go_on_unsettled(
-    limit: u64,
-    around: usize,
-    frame: usize,
-    counter: u64,
-    sums: &Sums,
-    opened: &mut Open,
-)
-    requires { ⌜ counter ≡ counterAt (partsIn (now opened)) around ⌝ }
-    requires { ⌜ (around < depthLimit) × (((limit ≡ 0 → ⊥) × (limit + around ≤ depthLimit)) × (counter < ceilingLimit)) ⌝ }
-    ensures { λ _. ⌜ partsIn (now (opened .exit)) ≡ unsettledParts around frame (now (sums .entry)) (partsIn (now (opened .entry))) limit ⌝ }
-{
-    let held = smaller(counter, limit - 1);
-    let count = counter + 1;
-    let visited = sum_trips(opened, around, held, count, *sums);
-    put_counter(opened, around, count);
-    pass_trip(opened, frame, &visited);
-    forget(opened, around, held as usize);
-    drop_arms(opened);
-}
-
 // A loop is left: the sum of its trips goes to what is around it.
 fn leave_loop(
     limit: u64,
@@ -139,26 +122,75 @@ fn loops_around(depth: usize) -> usize
     if depth == 0 { 0 } else { depth - 1 }
 }
 
-// Whether the choices of a loop, if it is ranked, are unsettled after the trip that the counter counts, and some of its trips follow.
-fn goes_unsettled(
-    rows: &Rows,
-    ranked: bool,
-    opener: usize,
-    trips: u64,
-    counter: u64,
-    opened: &Open,
-) -> bool
-    ensures { λ r. ⌜ r ≡ goesUnsettled (now (rows .entry)) ranked opener trips counter (armsIn (now (opened .entry))) ⌝ }
+// Whether the choices of a ranked loop are unsettled after the trip that the counter counts, and some of its trips follow.
+fn goes_unsettled(rows: &Rows, opener: usize, trips: u64, counter: u64, opened: &Open) -> bool
+    ensures { λ r. ⌜ r ≡ goesUnsettled (now (rows .entry)) true opener trips counter (armsIn (now (opened .entry))) ⌝ }
 {
-    if !ranked {
-        return false;
-    }
     if !further(counter, trips) {
         return false;
     }
     let count = counter + 1;
     let arms = kept_arms(opened) / (count as usize);
     !settled(rows, opener, arm_numbers(opened), count, arms)
+}
+
+// The kept trips of a loop join the open one, and their arms are dropped.
+fn join_kept(around: usize, held: u64, sums: Sums, opened: &mut Open) -> Sums
+    requires { ⌜ around + held < depthLimit ⌝ }
+    ensures { λ r. ⌜ r ≡ keptJoined around held (partsIn (now (opened .entry))) sums ⌝ }
+    ensures { λ _. ⌜ partsIn (now (opened .exit)) ≡ keptDropped around held (partsIn (now (opened .entry))) ⌝ }
+{
+    let least = kept_sum(opened, around, LEAST, held);
+    let most = kept_sum(opened, around, MOST, held);
+    let mut joined = sums;
+    add(&mut joined, least, most);
+    forget(opened, around, held as usize);
+    drop_arms(opened);
+    joined
+}
+
+// Whether the loop of which a trip ends is ranked and walked nevertheless: after its first trips, or in the last of them where its choices are found
+// unsettled, when it turns to walking: the kept trips join the open one, and their arms are dropped. It is asked before all else, since of most sheets
+// no loop is ranked: what follows is then quicker.
+fn turn_to_walking(
+    rows: &Rows,
+    differences: &Differences,
+    limits: &Limits,
+    depth: usize,
+    at: usize,
+    sums: &mut Sums,
+    opened: &mut Open,
+) -> bool
+    requires { ⌜ depth ≤ depthLimit ⌝ }
+    ensures { λ r. ⌜ endTrip (now (rows .entry)) (now (differences .entry)) (now (limits .entry)) depth
+        (stateIn at (now (sums .entry)) (now (opened .entry)))
+        ≡ endTripBy (now (rows .entry)) (now (differences .entry)) (now (limits .entry)) depth
+        (cond r 0 (limitWithin (now (limits .entry)) (loopAt (now (rows .entry)) (openerAt (now (rows .entry)) at)) (depth - 1)))
+        (stateIn at (now (sums .exit)) (now (opened .exit))) ⌝ }
+{
+    if !some_ranked(limits) {
+        return false;
+    }
+    let opener = opener_at(rows, at);
+    let number = loop_at(rows, opener);
+    if !ranked_at(limits, number) {
+        return false;
+    }
+    let around = loops_around(depth);
+    let counter = counter_at(opened, around);
+    let limit = limit_within(limits, number, around);
+    if limit <= counter {
+        return true;
+    }
+    let trips = trips_at(differences, opened, number);
+    if further(counter, visited_by(limit, trips)) {
+        return false;
+    }
+    if !goes_unsettled(rows, opener, trips, counter, opened) {
+        return false;
+    }
+    *sums = join_kept(around, counter, *sums, opened);
+    true
 }
 
 // The arms of a ranked loop that is left are dropped.
@@ -183,7 +215,7 @@ fn open_trip(opener: usize, depth: usize, sums: &mut Sums) -> Outcome
     }
 }
 
-// The end of a trip of the innermost open loop: a further trip opens, maybe with the choices found unsettled, or the loop is left.
+// The end of a trip of the innermost open loop: a further trip opens, or the loop is left.
 fn end_trip(
     rows: &Rows,
     differences: &Differences,
@@ -198,6 +230,7 @@ fn end_trip(
         (stateIn at (now (sums .entry)) (now (opened .entry)))
         ≡ record { begun = r .begun; depth = r .depth; after = stateIn (r .at) (now (sums .exit)) (now (opened .exit)) } ⌝ }
 {
+    let walked = turn_to_walking(rows, differences, limits, depth, at, sums, opened);
     let opener = opener_at(rows, at);
     let frame = frame_at(rows, opener);
     let number = loop_at(rows, opener);
@@ -206,18 +239,14 @@ fn end_trip(
     let step = step_at(rows, opener);
     add(sums, step, step);
     let counter = counter_at(opened, around);
-    let limit = limit_now(limits, number, around, counter);
+    let limit = limit_unless(walked, limits, number, around);
     if further(counter, visited_by(limit, trips)) {
         join_trip(limit, around, frame, counter, sums, opened);
         put_counter(opened, around, counter + 1);
         return open_trip(opener, depth, sums);
     }
-    let ranked = ranked_at(limits, number);
-    if goes_unsettled(rows, ranked, opener, trips, counter, opened) {
-        go_on_unsettled(limit, around, frame, counter, sums, opened);
-        return open_trip(opener, depth, sums);
-    }
     leave_loop(limit, around, frame, trips, sums, opened);
+    let ranked = ranked_at(limits, number);
     leave_arms(ranked, opened);
     Outcome {
         at: at + 1,

@@ -7,6 +7,7 @@ ghost use Rattle.passing.specs.Pass.{passStraightWork, keepsArmsAt, open
 use form::MAX_DEPTH;
 use layout::limits::Limits;
 use layout::limits::ranked_at;
+use layout::limits::some_ranked;
 use layout::rows::CHOICE;
 use layout::rows::END;
 use layout::rows::LOOP;
@@ -67,7 +68,7 @@ pub fn of_loop(rows: &Rows, number: usize) -> bool
     role == LOOP
 }
 
-// Whether the arms of a choice are kept: where it stands directly in a trip of a ranked loop, one of the first. Most loops are not ranked.
+// Whether the arms of a choice are kept: where it stands directly in a trip of a ranked loop, one of the first.
 fn keeps_arms(rows: &Rows, limits: &Limits, choice: usize, opened: &Open) -> bool
     ensures { λ r. ⌜ r ≡ keepsArmsAt (now (rows .entry)) (now (limits .entry)) choice (partsIn (now (opened .entry))) ⌝ }
 {
@@ -89,11 +90,14 @@ fn keeps_arms(rows: &Rows, limits: &Limits, choice: usize, opened: &Open) -> boo
     counter_at(opened, depth) < limit_within(limits, number, depth)
 }
 
-// The open arm of a choice is kept, where its arms are.
+// The open arm of a choice is kept, where its arms are. Of most sheets no loop is ranked.
 fn keep_open_arm(rows: &Rows, limits: &Limits, choice: usize, sums: &Sums, opened: &mut Open)
     ensures { λ _. ⌜ partsIn (now (opened .exit))
         ≡ openArmKept (now (rows .entry)) (now (limits .entry)) choice (now (sums .entry)) (partsIn (now (opened .entry))) ⌝ }
 {
+    if !some_ranked(limits) {
+        return;
+    }
     if keeps_arms(rows, limits, choice, opened) {
         keep_arm(opened, sums);
     }

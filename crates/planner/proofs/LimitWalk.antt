@@ -2,7 +2,7 @@
 use mathlib.Core.List.{_++_, List, [], append-nil, map-append, _∷_}
 use mathlib.Core.Option.{Option, none, some}
 use mathlib.Core.Path.{ap, ap₂, refl, sym, _∙_, _≡_}
-use Prim.Native.Nat.{_%_, _+_, _-_, _<_, suc, zero, ℕ, _≤_}
+use Prim.Native.Nat.{_+_, _-_, _<_, max, suc, zero, ℕ, _≤_}
 use native.Mathlib.Numerals.{add-one}
 use native.Mathlib.Omega.{arith}
 use lib.ListN.{drop, getD, length, length-map, take}
@@ -10,10 +10,9 @@ use lib.Seq.{paste, take-all, take-suc}
 use lib.IntN.{ℤ}
 use Rattle.meaning.specs.Record.{endRecord, Record, Open, Loop}
 use Rattle.layout.specs.Rows.{depthAt, endAt, loopAt, roleAt, roleNumber, roleOf}
-use Rattle.layout.specs.Loops.{loopLimit}
+use Rattle.layout.specs.Loops.{limitFrom, withLargest}
 use Rattle.layout.specs.Numbers.{storedIn}
-use Rattle.layout.proofs.Reading.{limits-next}
-use Rattle.layout.proofs.Storing.{stored-none}
+use Rattle.layout.proofs.Reading.{limits-begin, limits-begun, limits-next}
 use Rattle.nest.specs.Walk.{recordsInside}
 use Rattle.sheet.specs.Sheets.{recordsOf}
 use Rattle.nest.proofs.Walks.{opensThrough}
@@ -22,17 +21,17 @@ use Rattle.loops.proofs.AtRecord.{fact-at, loop-there, no-facts, number-is, rol
 use Rattle.loops.proofs.LoopsRead.{loops-append-in}
 use Rattle.planner.specs.Known.{KnownInside, Surveyed}
 use Rattle.planner.specs.Closing.{classAmong, heightAbove, numberAmong, numberOf, planAt, LoopPlan}
-use Rattle.planner.specs.Plan.{limitsStored, sheetPlans}
+use Rattle.planner.specs.Plan.{limitsStored, numbersStored, sheetPlans}
 use Rattle.planner.proofs.PlansOf.{loops-before-plans, plan-of-record, plans-length}
 use Rattle.loops.specs.Enclosing.{Enclosing, loopsAround}
 use Rattle.planner.proofs.AtLoop.{depth-there, end-there, known-inside}
 
-limits-size : (plans : List LoopPlan) → length (limitsStored plans) ≡ length plans
-unfolding limitsStored
+limits-size : (plans : List LoopPlan) → length (numbersStored plans) ≡ length plans
+unfolding numbersStored
 limits-size plans = length-map plans (λ p. numberOf (p .class) (p .height))
 
-limits-more : (plans : List LoopPlan) (p : LoopPlan) → limitsStored plans ++ (numberOf (p .class) (p .height) ∷ []) ≡ limitsStored (plans ++ (p ∷ []))
-unfolding limitsStored
+limits-more : (plans : List LoopPlan) (p : LoopPlan) → numbersStored plans ++ (numberOf (p .class) (p .height) ∷ []) ≡ numbersStored (plans ++ (p ∷ []))
+unfolding numbersStored
 limits-more plans p = sym (map-append (λ q. numberOf (q .class) (q .height)) plans (p ∷ []))
 
 pub record Limited (count : ℕ) (rows differences facts before limits : List ℕ) (n : ℕ) : Type 0 where
@@ -40,17 +39,20 @@ pub record Limited (count : ℕ) (rows differences facts before limits : List �
   pub storedSoFar : (sheet : List ℕ) (ps : List ℤ) → Surveyed sheet ps count rows differences facts →
       limits ≡ storedIn before (limitsStored (loopsIn (take n (sheetPlans ps (recordsOf sheet)))))
 
-pub limited-start : (count : ℕ) (rows differences facts limits : List ℕ) → Limited count rows differences facts limits limits 0
-unfolding loopsIn limitsStored
-limited-start count rows differences facts limits = record { so-far = omega arith; storedSoFar = λ sheet ps g. sym (stored-none limits) }
+pub limited-start : (count : ℕ) (rows differences facts before : List ℕ) {limits : List ℕ} → limits ≡ paste before 0 (0 ∷ []) 1
+    → Limited count rows differences facts limits limits 0
+unfolding loopsIn numbersStored limitsStored
+limited-start count rows differences facts before begun = record { so-far = omega arith; storedSoFar = λ sheet ps g. limits-begin before begun }
 
 module _ {count : ℕ} {rows differences facts before limits : List ℕ} {n : ℕ} (g : Limited count rows differences facts before limits n) where
-  pub limited-done : count ≤ n → (sheet : List ℕ) (ps : List ℤ) → Surveyed sheet ps count rows differences facts →
-      limits ≡ storedIn before (limitsStored (loopsIn (sheetPlans ps (recordsOf sheet))))
-  limited-done h sheet ps s =
+  pub limited-done : (entry : List ℕ) → before ≡ paste entry 0 (0 ∷ []) 1 → count ≤ n → (sheet : List ℕ) (ps : List ℤ) → Surveyed sheet ps count rows differences facts →
+      limits ≡ storedIn entry (limitsStored (loopsIn (sheetPlans ps (recordsOf sheet))))
+  unfolding limitsStored
+  limited-done entry begun h sheet ps s =
       g .storedSoFar sheet ps s
       ∙ ap (λ (l : List (Option LoopPlan)). storedIn before (limitsStored (loopsIn l)))
       (take-all n (sheetPlans ps (recordsOf sheet)) (omega (arith, s .all, plans-length ps (recordsOf sheet))))
+      ∙ limits-begun entry begun (numbersStored (loopsIn (sheetPlans ps (recordsOf sheet))))
 
   module _ (more : n < count) {role : ℕ} (roleIs : role ≡ roleAt rows n) where
     module _ (sheet : List ℕ) (ps : List ℤ) (s : Surveyed sheet ps count rows differences facts) where
@@ -94,7 +96,9 @@ module _ {count : ℕ} {rows differences facts before limits : List ℕ} {n : �
     pub limited-next : role ≡ 1 → {number stored : ℕ} → number ≡ loopAt rows n →
         ((fs : List (Option LoopFacts)) → KnownInside rows differences facts n fs →
         stored ≡ numberAmong (depthAt rows n) (take (endAt rows n - (n + 1)) (drop (n + 1) fs))) →
-        {limits2 : List ℕ} → limits2 ≡ paste limits (number % loopLimit) (stored ∷ []) 1 → Limited count rows differences facts before limits2 (n + 1)
+        {limits2 : List ℕ} → limits2 ≡ paste (paste limits (limitFrom number) (stored ∷ []) 1) 0 (max (getD limits 0 0) stored ∷ []) 1
+        → Limited count rows differences facts before limits2 (n + 1)
+    unfolding limitsStored
     limited-next one {number} {stored} numberIs storedIs {limits2} put = record {
       so-far = omega arith;
       storedSoFar = λ sheet ps s.
@@ -119,10 +123,10 @@ module _ {count : ℕ} {rows differences facts before limits : List ℕ} {n : �
           plan-of-record ps rs n there ∙ ap (λ (f : Option LoopFacts). planAt f inside) is ∙ (unfold planAt in refl) in
           let place-is = number-is sheet ps n there (s .sheetIs .rowsAre) l (found .1) in
           let passed : List LoopPlan = loopsIn (take n (plans sheet ps s)) in
-          let at : number ≡ length (limitsStored passed) =
+          let at : number ≡ length (numbersStored passed) =
           numberIs ∙ place-is .0 ∙ sym (loops-before-plans ps rs n) ∙ sym (limits-size passed) in
-          put ∙ ap₂ (λ (b : List ℕ) (v : ℕ). paste b (number % loopLimit) (v ∷ []) 1) (g .storedSoFar sheet ps s) value
-          ∙ limits-next before (limitsStored passed) number (numberOf (plan .class) (plan .height)) at (omega (arith, numberIs, place-is .1))
-          ∙ ap (storedIn before)
-          (limits-more passed plan ∙ ap limitsStored (sym (one-more sheet ps s (some plan) planned ∙ (unfold loopsIn in refl))));
+          put ∙ ap (λ (v : ℕ). paste (paste limits (limitFrom number) (v ∷ []) 1) 0 (max (getD limits 0 0) v ∷ []) 1) value
+          ∙ limits-next before (numbersStored passed) number (numberOf (plan .class) (plan .height)) at (omega (arith, numberIs, place-is .1)) (g .storedSoFar sheet ps s)
+          ∙ ap (λ (numbers : List ℕ). storedIn before (withLargest numbers))
+          (limits-more passed plan ∙ ap numbersStored (sym (one-more sheet ps s (some plan) planned ∙ (unfold loopsIn in refl))));
     }

@@ -19,7 +19,7 @@ use Rattle.meaning.specs.Report.{reportOf}
 use Rattle.meaning.proofs.Accepted.{InPlace}
 use Rattle.meaning.proofs.Logic.{true→T}
 use Rattle.meaning.proofs.PassingTests.{closed-without-reason}
-use Rattle.layout.specs.Loops.{baseAt, limitAt, loopLimit, pushWordAt, rankedAt, rankedMark, strideAt, wordOf}
+use Rattle.layout.specs.Loops.{baseAt, limitAt, withLargest, loopLimit, pushWordAt, rankedAt, rankedMark, strideAt, wordOf}
 use Rattle.layout.specs.Rows.{loopAt, roleAt, roleNumber, roleOf, roleOfKind}
 use Rattle.layout.specs.Numbers.{storedIn}
 use Rattle.layout.proofs.Reading.{limit-number, ranked-number}
@@ -30,7 +30,7 @@ use Rattle.loops.proofs.LoopsRead.{loop-among}
 use Rattle.loops.proofs.Sizes.{SmallParameters}
 use Rattle.planner.specs.Closing.{classBy, isRanked, limitOf, LoopPlan, numberOf}
 use Rattle.planner.specs.Known.{PlanHeld}
-use Rattle.planner.specs.Plan.{limitsStored, sheetPlans}
+use Rattle.planner.specs.Plan.{limitsStored, numbersStored, sheetPlans}
 use Rattle.planner.specs.Reports.{reasonBy, reportAt}
 use Rattle.planner.specs.Reasons.{reasonAt}
 use Rattle.planner.proofs.Limits.{class-of-limit}
@@ -43,7 +43,7 @@ use Rattle.planner.proofs.ReasonRead.{reason-read}
 record StoredAt (limits : List ℕ) (j value : ℕ) : Type 0 where
   before : List ℕ
   numbers : List ℕ
-  limitsAre : limits ≡ storedIn before numbers
+  limitsAre : limits ≡ storedIn before (withLargest numbers)
   within : j < length numbers
   below : j < loopLimit
   valueIs : getD numbers j 0 ≡ value
@@ -94,7 +94,7 @@ module _ {ps : List ℤ} {rs : List Record} {rows differences facts limits : Lis
     class = loopClass ps l (tree ys) (es .ranges)
 
     plan-number : StoredAt limits (loopAt rows (length xs)) (numberOf class (height (tree ys)))
-    unfolding limitsStored definedPlan
+    unfolding limitsStored numbersStored definedPlan
     plan-number =
         let plans : List (Option LoopPlan) = sheetPlans ps rs in
         let passed : List LoopPlan = loopsIn (take (length xs) plans) in
@@ -105,7 +105,7 @@ module _ {ps : List ℤ} {rs : List Record} {rows differences facts limits : Lis
         record {
           before = held .limitsBefore;
           numbers = map stored (passed ++ (plan ∷ rest));
-          limitsAre = held .limitsAre ∙ ap (λ (p : List LoopPlan). storedIn (held .limitsBefore) (map stored p)) all;
+          limitsAre = held .limitsAre ∙ ap (λ (p : List LoopPlan). storedIn (held .limitsBefore) (withLargest (map stored p))) all;
           within = omega (arith, at, length-append passed (plan ∷ rest), length-map (passed ++ (plan ∷ rest)) stored);
           below = omega (arith, number (held .sheetIs) place few xs l ys split, small (held .sheetIs) place few xs l ys split);
           valueIs = ap₂ (λ (n : ℕ) (b : List ℕ). getD b n 0) at (map-append stored passed (plan ∷ rest))

@@ -7,13 +7,18 @@ use lib.ListN.{length}
 use Rattle.meaning.specs.Record.{Record}
 use Rattle.meaning.specs.Reader.{Result, ok, refused, andThen}
 use Rattle.meaning.specs.Answer.{accepted}
+use Rattle.layout.specs.Loops.{withLargest}
 use Rattle.nest.specs.Rows.{rowsStored}
 use Rattle.loops.specs.Facts.{factsStored, loopsIn, sheetFacts, wordsStored}
 use Rattle.planner.specs.Closing.{LoopPlan, numberOf, plansFrom}
 
--- the numbers that are stored
+-- the numbers that are stored of the loops: their limits, and whether they are ranked
+unfoldable pub numbersStored : List LoopPlan → List ℕ
+numbersStored ps = map (λ p. numberOf (p .class) (p .height)) ps
+
+-- all of a plan's limits
 unfoldable pub limitsStored : List LoopPlan → List ℕ
-limitsStored ps = map (λ p. numberOf (p .class) (p .height)) ps
+limitsStored ps = withLargest (numbersStored ps)
 
 module _ (parameters : List ℤ) where
   -- of a sheet's records

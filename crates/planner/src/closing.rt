@@ -28,6 +28,7 @@ use layout::facts::choice_depth_at;
 use layout::facts::enough_at;
 use layout::facts::rank_depth_at;
 use layout::limits::Limits;
+use layout::limits::begin_limits;
 use layout::limits::limit_number;
 use layout::limits::put_limit;
 use layout::rows::LOOP;
@@ -144,6 +145,7 @@ pub(crate) fn put_limits(
     ensures { λ _. ⌜ ((sheet : List ℕ) (parameters : List ℤ) → Surveyed sheet parameters count (now (rows .entry)) (now (differences .entry)) (now (facts .entry)) →
         now (limits .exit) ≡ storedIn (now (limits .entry)) (limitsStored (loopsIn (sheetPlans parameters (recordsOf sheet))))) ⌝ }
 {
+    begin_limits(limits);
     let mut number: usize = 0;
     while number < count {
         if role_at(rows, number) != LOOP {

@@ -25,7 +25,7 @@ use Rattle.meaning.proofs.SmallFigures.{figures-small, visits-small}
 use Rattle.meaning.proofs.Runs.{least≤most}
 use Rattle.meaning.proofs.Stages.{stages-add-up, stages-reach}
 use Rattle.layout.specs.Numbers.{arrayOf}
-use Rattle.layout.specs.Loops.{differencesLength, factsLength, loopLimit}
+use Rattle.layout.specs.Loops.{differencesLength, factsLength, limitsLength}
 use Rattle.layout.specs.Rows.{rowsLength}
 use Rattle.loops.proofs.Sizes.{SmallParameters}
 use Rattle.planner.specs.Plan.{Plan, planOf, planOfRecords}
@@ -76,7 +76,7 @@ module _ (sheet : List ℕ) (ps : List ℤ) (rs : List Record) (small : SmallPar
   differences = arrayOf differencesLength (plan .differences)
 
   abbrev limits : List ℕ
-  limits = arrayOf loopLimit (plan .limits)
+  limits = arrayOf limitsLength (plan .limits)
 
   known : KnownPlan ps rs rows differences limits
   unfolding planOfRecords sheetReports
@@ -93,7 +93,7 @@ module _ (sheet : List ℕ) (ps : List ℤ) (rs : List Record) (small : SmallPar
         rowsAre = record { before = replicate rowsLength 0; are = refl };
         loopsAre = record { wordsBefore = replicate differencesLength 0; wordsAre = refl; factsBefore = replicate factsLength 0; factsAre = refl };
       };
-      limitsBefore = replicate loopLimit 0;
+      limitsBefore = replicate limitsLength 0;
       limitsAre = refl;
     };
   }

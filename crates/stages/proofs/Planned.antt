@@ -8,7 +8,7 @@ use Rattle.meaning.specs.Record.{Record}
 use Rattle.meaning.specs.Reader.{Result, ok, refused}
 use Rattle.meaning.specs.Answer.{accepted}
 use Rattle.layout.specs.Numbers.{arrayOf}
-use Rattle.layout.specs.Loops.{differencesLength, factsLength, loopLimit}
+use Rattle.layout.specs.Loops.{differencesLength, factsLength, limitsLength}
 use Rattle.layout.specs.Rows.{rowsLength}
 use Rattle.sheet.specs.Sheets.{recordsOf}
 use Rattle.nest.specs.Rows.{rowsStored}
@@ -25,11 +25,11 @@ module _ (sheet : List ℕ) (ps : List ℤ) where
       rows ≡ arrayOf rowsLength (rowsStored (recordsOf sheet)) →
       words ≡ arrayOf differencesLength (wordsStored (withinCeiling (sheetFacts ps (recordsOf sheet)))) →
       facts ≡ arrayOf factsLength (factsStored (withinCeiling (sheetFacts ps (recordsOf sheet)))) →
-      limits ≡ arrayOf loopLimit (limitsIn (planOf sheet ps)) → {count : ℕ} → count ≡ length rs → (s : StateParts) → {t : StateParts} →
+      limits ≡ arrayOf limitsLength (limitsIn (planOf sheet ps)) → {count : ℕ} → count ≡ length rs → (s : StateParts) → {t : StateParts} →
       nextOn rows words limits count s ≡ t → t ≡ nextState sheet ps s
   unfolding nextOn nextState stage stageFor planOfRecords
   next-planned rs e r w f l n s t =
-      let stored = plan-stored sheet ps rs e (replicate rowsLength 0) (replicate differencesLength 0) (replicate factsLength 0) (replicate loopLimit 0) r w f l in
+      let stored = plan-stored sheet ps rs e (replicate rowsLength 0) (replicate differencesLength 0) (replicate factsLength 0) (replicate limitsLength 0) r w f l in
       let rowsAre = stored .rowsAre in
       let wordsAre = stored .wordsAre in
       let limitsAre = stored .limitsAre in

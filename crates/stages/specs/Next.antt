@@ -7,7 +7,7 @@ use lib.IntN.{ℤ}
 use Rattle.meaning.specs.Reader.{Result, ok, refused}
 use Rattle.layout.specs.Numbers.{arrayOf}
 use Rattle.layout.specs.Rows.{rowsLength}
-use Rattle.layout.specs.Loops.{loopLimit, differencesLength}
+use Rattle.layout.specs.Loops.{limitsLength, differencesLength}
 use Rattle.planner.specs.Plan.{Plan, planOf}
 use Rattle.state.specs.declared.State.{State}
 use Rattle.state.specs.States.{StateParts, stateIn, firstState}
@@ -28,7 +28,7 @@ stageOf p = record { begun = p .begun; after = p .after }
 -- a stage on a sheet's plan; where the sheet is refused 1 to 6 the state stays as it is
 unfoldable pub stageFor : Result Plan → StateParts → NextStage
 stageFor (ok plan) s =
-    stageOf (stageOn (arrayOf rowsLength (plan .rows)) (arrayOf differencesLength (plan .differences)) (arrayOf loopLimit (plan .limits)) (plan .count) s)
+    stageOf (stageOn (arrayOf rowsLength (plan .rows)) (arrayOf differencesLength (plan .differences)) (arrayOf limitsLength (plan .limits)) (plan .count) s)
 stageFor (refused number place) s = record { begun = false; after = s }
 
 -- 1 where a visit begins

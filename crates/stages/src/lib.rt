@@ -8,11 +8,11 @@ ghost use Rattle.stages.specs.Next.{partsOf, nextState};
 ghost use Rattle.stages.specs.Laws.{StageLaws};
 use evaluator::advance;
 use form::Parameters;
-use layout::MAX_LOOPS;
 use layout::differences::DIFFERENCE_WORDS;
 use layout::differences::Differences;
 use layout::facts::FACT_NUMBERS;
 use layout::facts::Facts;
+use layout::limits::LIMIT_NUMBERS;
 use layout::limits::Limits;
 use layout::rows::ROW_NUMBERS;
 use layout::rows::Rows;
@@ -28,7 +28,7 @@ pub fn stage(sheet: &[u8], parameters: Parameters, s: State) -> State
     let mut rows: Rows = [0; ROW_NUMBERS];
     let mut differences: Differences = [0; DIFFERENCE_WORDS];
     let mut facts: Facts = [0; FACT_NUMBERS];
-    let mut limits: Limits = [0; MAX_LOOPS];
+    let mut limits: Limits = [0; LIMIT_NUMBERS];
     let planned = plan(
         sheet,
         parameters,

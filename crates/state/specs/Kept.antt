@@ -31,6 +31,11 @@ module _ (kept : List ℕ) (depth column : ℕ) where
   unfoldable pub keptTrip : ℕ → ℕ
   keptTrip number = getD kept (keptFrom depth + 2 * number + column) 0
 
+  -- of so many kept ones, added up
+  unfoldable pub keptTotal : ℕ → ℕ
+  keptTotal zero = 0
+  keptTotal (suc held) = keptTotal held + keptTrip held
+
   -- of the first trips: `held` kept ones, then the open one; four numbers
   unfoldable pub firstTrips : ℕ → ℕ → List ℕ
   firstTrips zero last = last ∷ 0 ∷ 0 ∷ 0 ∷ []

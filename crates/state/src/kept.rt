@@ -1,10 +1,10 @@
 // The trips kept of the open closed loops, and of a ranked one in its first trips: a least and a most for each.
 ghost use mathlib.Core.Path.{_≡_};
-ghost use Prim.Native.Nat.{suc, _+_, _<_, _≤_};
+ghost use Prim.Native.Nat.{suc, _+_, _%_, _^_, _<_, _≤_};
 ghost use Rattle.meaning.specs.Limits.{depthLimit};
 ghost use Rattle.state.specs.Open.{partsIn, keptIn, withKept};
 ghost use Rattle.state.specs.Sums.{mostColumn};
-ghost use Rattle.state.specs.Kept.{keptFrom, tripKept, keptTrip, firstTrips, forgotten};
+ghost use Rattle.state.specs.Kept.{keptFrom, tripKept, keptTrip, keptTotal, firstTrips, forgotten};
 use crate::open::KEPT;
 use crate::open::Open;
 use crate::open::blank;
@@ -13,6 +13,7 @@ use crate::sums::LEAST;
 use crate::sums::MOST;
 use crate::sums::Sums;
 use form::MAX_DEPTH;
+use std::num::wrapping_add_u64;
 
 // Where the trips of a loop with so many loops around it begin.
 fn kept_from(depth: usize) -> usize
@@ -68,6 +69,16 @@ pub fn first_trips(
     }
     let third = kept_trip(opened, depth, column, 2);
     [first, second, third, last]
+}
+
+// The same of all kept trips together.
+pub fn kept_sum(opened: &Open, depth: usize, column: usize, held: u64) -> u64
+    requires { ⌜ (depth + held < depthLimit) × (column ≤ mostColumn) ⌝ }
+    ensures { λ r. ⌜ r ≡ keptTotal (keptIn (now (opened .entry))) depth column held % 2 ^ 64 ⌝ }
+{
+    let trips = first_trips(opened, depth, column, held, 0);
+    let first = wrapping_add_u64(trips[0], trips[1]);
+    wrapping_add_u64(first, trips[2])
 }
 
 // The kept trips of a loop that is left.

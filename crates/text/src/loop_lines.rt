@@ -10,11 +10,11 @@ ghost use Rattle.text.specs.Limits.{reportLimit};
 ghost use Rattle.text.specs.Reports.{reportsBefore};
 use crate::lines::put_report;
 use form::Parameters;
-use layout::MAX_LOOPS;
 use layout::differences::DIFFERENCE_WORDS;
 use layout::differences::Differences;
 use layout::facts::FACT_NUMBERS;
 use layout::facts::Facts;
+use layout::limits::LIMIT_NUMBERS;
 use layout::limits::Limits;
 use layout::rows::ROW_NUMBERS;
 use layout::rows::Rows;
@@ -76,7 +76,7 @@ pub(crate) fn put_loops(sheet: &[u8], parameters: Parameters, buffer: &mut [u8],
     let mut rows: Rows = [0; ROW_NUMBERS];
     let mut differences: Differences = [0; DIFFERENCE_WORDS];
     let mut facts: Facts = [0; FACT_NUMBERS];
-    let mut limits: Limits = [0; MAX_LOOPS];
+    let mut limits: Limits = [0; LIMIT_NUMBERS];
     let planned = plan(
         sheet,
         parameters,

@@ -1,16 +1,16 @@
 -- A loop's trips: D from its wrapped parts, the quotient, and which trips are visited.
 use mathlib.Core.Path.{_≡_, refl, sym, ap, _∙_}
-use mathlib.Core.Bool.{Bool, true, false, _&&_, cond}
+use mathlib.Core.Bool.{Bool, true, false, cond}
 use mathlib.Core.List.{List}
 use Prim.Native.Nat.{ℕ, zero, suc, _+_, _*_, _-_, _/_, _%_, _^_, _<_, _≤_, min, max}
 use native.Mathlib.Omega.{arith}
 use native.Mathlib.Nat.{add-mod, add-mod-mod, div-one, div-le-self}
-use lib.Dec.{leb, ltb, leb·suc-suc}
+use lib.Dec.{ltb, leb·suc-suc}
 use lib.ListN.{getD}
-use borrow.Author.Tests.{lt-ltb, le-ltb, lt-leb, le-leb}
+use borrow.Author.Tests.{lt-ltb, le-ltb}
 use Rattle.meaning.specs.Limits.{depthLimit, ceilingLimit}
-use Rattle.layout.specs.Loops.{strideAt, baseAt, pushWordAt, rankedAt}
-use Rattle.trips.specs.Trips.{differenceWord, tripsOver, tripsAt, limitWithin, limitNow, visitedBy}
+use Rattle.layout.specs.Loops.{strideAt, baseAt, pushWordAt}
+use Rattle.trips.specs.Trips.{differenceWord, tripsOver, tripsAt, limitWithin, visitedBy}
 
 wrapped-difference : (m base a b c : ℕ) → (base + (a % m + (b % m + c % m) % m) % m) % m ≡ (base + (a + (b + c))) % m
 wrapped-difference m base a b c =
@@ -77,34 +77,13 @@ module _ (differences counters : List ℕ) (number : ℕ) where
     unfolding tripsAt
     trips-made {stride} h p q r = let f = some-trips d stride h in cc
 
--- ---- the limit at a trip
+-- ---- the limit
 
-module _ (limits : List ℕ) (number depth counter : ℕ) where
-  abbrev now : ℕ
-  now = limitNow limits number depth counter
-
-  module _ {limit : ℕ} (l : limit ≡ limitWithin limits number depth) {ranked : Bool} (r : ranked ≡ rankedAt limits number) where
-    pub unranked-now : ranked ≡ false → limit ≡ now
-    unfolding limitNow
-    unranked-now e = let f = sym r ∙ e in simp f l
-
-    pub first-now : ranked ≡ true → counter < limit → limit ≡ now
-    unfolding limitNow
-    first-now e h = let f = sym r ∙ e in let t = lt-leb limit counter h in simp (f, ← l, t) refl
-
-    pub later-now : ranked ≡ true → limit ≤ counter → 0 ≡ now
-    unfolding limitNow
-    later-now e h = let f = sym r ∙ e in let t = le-leb limit counter h in simp (f, ← l, t) refl
-
-  within : (b : Bool) → depth ≤ depthLimit → cond b 0 (limitWithin limits number depth) + depth ≤ depthLimit
-  unfolding limitWithin
-  within true h = omega arith
-  within false h = omega arith
-
-  -- with the loops around it, it is at most the depth limit
-  pub limit-few : depth ≤ depthLimit → now + depth ≤ depthLimit
-  unfolding limitNow
-  limit-few h = within (rankedAt limits number && leb (limitWithin limits number depth) counter) h
+-- with the loops around it, it is at most the depth limit
+pub limit-few : (limits : List ℕ) (number depth : ℕ) (walked : Bool) → depth ≤ depthLimit → cond walked 0 (limitWithin limits number depth) + depth ≤ depthLimit
+unfolding limitWithin
+limit-few limits number depth true h = omega arith
+limit-few limits number depth false h = omega arith
 
 -- ---- visited trips
 

@@ -1,5 +1,6 @@
 // A loop's trips, from the counters of the loops around it, and how many of them are visited.
 ghost use mathlib.Core.Path.{_≡_};
+ghost use mathlib.Core.Bool.{cond};
 ghost use Prim.Native.Nat.{suc, _/_, _≤_, max};
 ghost use lib.Dec.{ltb};
 ghost use Rattle.meaning.specs.Limits.{depthLimit};
@@ -13,7 +14,6 @@ use layout::differences::push_at;
 use layout::differences::stride_at;
 use layout::limits::Limits;
 use layout::limits::limit_at;
-use layout::limits::ranked_at;
 use newton::product::wrapping_product;
 use records::loops::Loop;
 use state::open::Open;
@@ -62,16 +62,16 @@ pub fn limit_within(limits: &Limits, number: usize, depth: usize) -> u64
     smaller(limit_at(limits, number), (MAX_DEPTH - depth) as u64)
 }
 
-// The same at the trip that the counter counts: a ranked loop in a trip after its first ones is walked.
-pub fn limit_now(limits: &Limits, number: usize, depth: usize, counter: u64) -> u64
+// The same where a ranked loop may be walked in this trip: then 0.
+pub fn limit_unless(walked: bool, limits: &Limits, number: usize, depth: usize) -> u64
     requires { ⌜ depth ≤ depthLimit ⌝ }
-    ensures { λ r. ⌜ r ≡ Trips.limitNow (now (limits .entry)) number depth counter ⌝ }
+    ensures { λ r. ⌜ r ≡ cond walked 0 (Trips.limitWithin (now (limits .entry)) number depth) ⌝ }
 {
-    let limit = limit_within(limits, number, depth);
-    if !ranked_at(limits, number) {
-        return limit;
+    if walked {
+        0
+    } else {
+        limit_within(limits, number, depth)
     }
-    if counter < limit { limit } else { 0 }
 }
 
 // How many of a loop's trips are visited: all of a walked loop's, which has limit 0.

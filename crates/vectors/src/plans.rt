@@ -5,11 +5,11 @@ use crate::numbers::PARAMETERS;
 use crate::numbers::parameters_in;
 use encoding::number::byte_at;
 use encoding::number::unsigned16_at;
-use layout::MAX_LOOPS;
 use layout::differences::DIFFERENCE_WORDS;
 use layout::differences::Differences;
 use layout::facts::FACT_NUMBERS;
 use layout::facts::Facts;
+use layout::limits::LIMIT_NUMBERS;
 use layout::limits::Limits;
 use layout::rows::ROW_NUMBERS;
 use layout::rows::Rows;
@@ -99,7 +99,7 @@ pub(crate) fn plan_agrees(case: Case, sheet: &[u8], given: &[u8]) -> bool {
     let mut rows: Rows = [0; ROW_NUMBERS];
     let mut differences: Differences = [0; DIFFERENCE_WORDS];
     let mut facts: Facts = [0; FACT_NUMBERS];
-    let mut limits: Limits = [0; MAX_LOOPS];
+    let mut limits: Limits = [0; LIMIT_NUMBERS];
     let parameters = parameters_in(given);
     let answer = plan(
         sheet,

@@ -1,8 +1,11 @@
--- The remainder of the loop's number is a place within the limits, and the number there becomes one of 64 bits.
+-- The place of the loop's number lies within the limits, and the number there becomes one of 64 bits.
 use Rattle.layout.specs.Loops.{limitAt}
 use borrow.Author.Needs.{needs}
 use Rattle.layout.proofs.limits.limit_at.Statement.{statement}
 use Rattle.layout.proofs.limits.limit_at.Tie as tie
+
+add-wide : tie.Need-add-wide
+add-wide c = search needs
 
 mul-wide : tie.Need-mul-wide
 mul-wide c = search needs
@@ -18,4 +21,4 @@ unfolding limitAt
 returns c = search needs
 
 pub limit-at-spec : {M : Type 1} → statement M
-limit-at-spec = tie.close (tie.spec mul-wide element-copy-out-wide wide-requires returns)
+limit-at-spec = tie.close (tie.spec add-wide mul-wide element-copy-out-wide wide-requires returns)

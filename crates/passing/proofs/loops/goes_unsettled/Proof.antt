@@ -1,32 +1,25 @@
--- Each test that fails answers the whole; a ranked loop of which trips follow is asked whether its choices are settled.
+-- Where no trip follows the answer is no; otherwise it is asked whether the choices are settled.
 use native.Mathlib.Omega.{arith}
 use denote.Ref.{now}
 use Rattle.state.specs.Open.{armsIn}
-use Rattle.passing.proofs.LoopLaws.{unranked-settles, last-settles, asks-settled, counts-on}
+use Rattle.passing.proofs.LoopLaws.{last-settles, asks-settled, counts-on}
 use borrow.Author.Needs.{needs}
 use borrow.Author.Tests.{not-true, not-false}
 use Rattle.passing.proofs.loops.goes_unsettled.Statement.{statement}
 use Rattle.passing.proofs.loops.goes_unsettled.Tie as tie
 
-returns : tie.Need-returns
-returns c =
-    let c1 = c .before in let a = c1 .args in
-    unranked-settles (now (a .rows)) (a .ranked) (a .opener) (a .trips) (a .counter) (armsIn (now (a .opened))) (not-true _ (c .if1 .taken))
-
 further-requires : tie.Need-further-requires
 further-requires c κs = search needs
 
-returns-2 : tie.Need-returns-2
-returns-2 c =
-    let c1 = c .before in let c2 = c1 .before in let c3 = c2 .before in let a = c3 .args in
-    last-settles (now (a .rows)) (a .ranked) (a .opener) (a .trips) (a .counter) (armsIn (now (a .opened))) (not-false _ (c2 .if1 .left))
-    (c1 .further .ensures)
-    (not-true _ (c .if2 .taken))
+returns : tie.Need-returns
+returns c =
+    let c1 = c .before in let a = c1 .before .args in
+    last-settles (now (a .rows)) (a .opener) (a .trips) (a .counter) (armsIn (now (a .opened))) (c1 .further .ensures) (not-true _ (c .if1 .taken))
 
 add-count : tie.Need-add-count
 add-count c =
-    let c1 = c .before in let c3 = c1 .before .before in let a = c3 .args in
-    let h = counts-on (a .counter) (a .trips) (c1 .further .ensures) (not-false _ (c .if2 .left)) in omega arith
+    let c1 = c .before in let a = c1 .before .args in
+    let h = counts-on (a .counter) (a .trips) (c1 .further .ensures) (not-false _ (c .if1 .left)) in omega arith
 
 kept-arms-requires : tie.Need-kept-arms-requires
 kept-arms-requires c κs = search needs
@@ -40,24 +33,21 @@ arm-numbers-requires c κs = search needs
 settled-requires : tie.Need-settled-requires
 settled-requires c κs = search needs
 
-returns-3 : tie.Need-returns-3
-returns-3 c =
-    let c1 = c .before in let c2 = c1 .before in let c3 = c2 .before in let c4 = c3 .before in let c5 = c4 .before in let c6 = c5 .before in
-    let a = c6 .args in
-    asks-settled (now (a .rows)) (a .ranked) (a .opener) (a .trips) (a .counter) (armsIn (now (a .opened))) (not-false _ (c5 .if1 .left))
-    (c4 .further .ensures)
-    (not-false _ (c3 .if2 .left)) (c2 .kept-arms .ensures) (c1 .arm-numbers .ensures) (c .settled .ensures)
+returns-2 : tie.Need-returns-2
+returns-2 c =
+    let c1 = c .before in let c2 = c1 .before in let c3 = c2 .before in let c4 = c3 .before in let a = c4 .before .args in
+    asks-settled (now (a .rows)) (a .opener) (a .trips) (a .counter) (armsIn (now (a .opened))) (c4 .further .ensures)
+    (not-false _ (c3 .if1 .left)) (c2 .kept-arms .ensures) (c1 .arm-numbers .ensures) (c .settled .ensures)
 
 pub goes-unsettled-spec : {M : Type 1} → statement M
 goes-unsettled-spec =
     tie.close
     (tie.spec
-    returns
     further-requires
-    returns-2
+    returns
     add-count
     kept-arms-requires
     div-arms
     arm-numbers-requires
     settled-requires
-    returns-3)
+    returns-2)

@@ -12,8 +12,12 @@ Inv-loop count rows differences facts limits₀ number₀ limits number = Limite
 abbrev μ-loop : tie.MeasureT-loop
 μ-loop count rows differences facts limits₀ number₀ limits number = count - number
 
+begin-limits-requires : tie.Need-begin-limits-requires Inv-loop μ-loop
+begin-limits-requires c κs = search needs
+
 loop-holds : tie.Need-loop-holds Inv-loop μ-loop
-loop-holds c = limited-start (c .args .count) (c .args .rows .now) (c .args .differences .now) (c .args .facts .now) (c .args .limits .now)
+loop-holds c =
+    let a = c .before .before .args in limited-start (a .count) (a .rows .now) (a .differences .now) (a .facts .now) (a .limits .now) (c .begin-limits .ensures)
 
 role-at-requires : tie.Need-role-at-requires Inv-loop μ-loop
 role-at-requires c κs = search needs
@@ -28,7 +32,7 @@ loop-again : tie.Need-loop-again Inv-loop μ-loop
 loop-again c = limited-skip (c .before .before .before .loop .inv) (c .before .before .loop-test .taken) (c .before .role-at .ensures) (c .if1 .taken)
 
 limit-requires : tie.Need-limit-requires Inv-loop μ-loop
-limit-requires c κs = omega (arith, c .before .before .loop-test .taken, c .before .before .before .before .pre)
+limit-requires c κs = omega (arith, c .before .before .loop-test .taken, c .before .before .before .before .before .before .pre)
 
 loop-at-requires : tie.Need-loop-at-requires Inv-loop μ-loop
 loop-at-requires c κs = search needs
@@ -50,7 +54,9 @@ loop-again-2 c =
     (c .before .loop-at .ensures) (limited .limit .ensures) (c .put-limit .ensures)
 
 returns : tie.Need-returns Inv-loop μ-loop
-returns c = limited-done (c .before .loop .inv) (c .loop-test .left)
+returns c =
+    let begun = c .before .before in
+    limited-done (c .before .loop .inv) (begun .before .before .args .limits .now) (begun .begin-limits .ensures) (c .loop-test .left)
 
 pub put-limits-spec : {M : Type 1} → statement M
 put-limits-spec =
@@ -58,6 +64,7 @@ put-limits-spec =
     (tie.spec
     Inv-loop
     μ-loop
+    begin-limits-requires
     loop-holds
     role-at-requires
     add-number
