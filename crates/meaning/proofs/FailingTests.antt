@@ -120,6 +120,7 @@ module _ (ps : List ℤ) where
 
       loop-in-tests : (b : Block) (ranges : List Range) (around : List Around) {at k : ℕ} {between : List Placed} {found : Loop} → LoopIn b at between k found →
           Each P (loop_tests ps b ranges around at) → Each P (tests_inside between found ranges around k)
+      loop-in-tests empty ranges around {at = at} {k = k} {between = between} {found = found} i each = elim i [ ]
       loop-in-tests (work least most rest) ranges around (loop_after_work i) each = loop-in-tests rest ranges around i each
       loop-in-tests (loop l body rest) ranges around loop_here each = (loop-parts l body rest ranges around _ each).0
       loop-in-tests (loop l body rest) ranges around (loop_in_body i) each = loop-in-tests body _ _ i (loop-parts l body rest ranges around _ each).1

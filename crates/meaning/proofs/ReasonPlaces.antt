@@ -96,6 +96,7 @@ mutual
   unfolding records
 
   pub choice-stands : (b : Block) {at c : ℕ} {found : Arms} → ChoiceIn b at c found → StandsAt (records b) at (records (choice found empty)) c
+  choice-stands empty {at = at} {c = c} {found = found} i = elim i [ ]
   choice-stands (work least most rest) (choice_after_work i) = stands-behind (work_record least most) (choice-stands rest i)
   choice-stands (loop l body rest) (choice_in_body i) = in_body l body rest (choice-stands body i)
   choice-stands (loop l body rest) (choice_after_loop i) = after-loop l body rest (choice-stands rest i)
@@ -137,6 +138,7 @@ mutual
   unfolding records
 
   pub loops-stand : (b : Block) {at k : ℕ} {between : List Placed} {found : Loop} → LoopIn b at between k found → LoopStands (records b) at between k found
+  loops-stand empty {at = at} {k = k} {between = between} {found = found} i = elim i [ ]
   loops-stand (work least most rest) (loop_after_work i) = loops-within (λ part k. stands-behind (work_record least most)) (loops-stand rest i)
   loops-stand (loop l body rest) loop_here = record { own = stands-first (loop_record l ∷ []) _; around = no_member }
   loops-stand (loop l body rest) (loop_in_body i) =

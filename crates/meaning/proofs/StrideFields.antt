@@ -24,6 +24,11 @@ strides-decide true true true true true true true t = refl
 strides-decide true true true true true true false t = refl
 strides-decide true true true true true false true t = refl
 strides-decide true true true true true false false t = refl
+strides-decide false b f g k _ y t = elim t [ ]
+strides-decide true false f g k _ y t = elim t [ ]
+strides-decide true true false g k _ y t = elim t [ ]
+strides-decide true true true false k _ y t = elim t [ ]
+strides-decide true true true true false _ y t = elim t [ ]
 
 no_other : (b c : Bool) → c ≡ false → b ≡ b || c
 no_other true c e = refl

@@ -38,7 +38,7 @@ pub data Ascending {A : Type 0} (R : A → A → Type 0) : List A → Type 0 whe
   ended : Ascending R []
   before : {x : A} {xs : List A} → Each (R x) xs → Ascending R xs → Ascending R (x ∷ xs)
 
-pub ascending-append : {A : Type 0} {R : A → A → Type 0} {xs ys : List A} → Each (λ x. Each (R x) ys) xs → Ascending R xs → Ascending R ys →
+pub ascending-append : {A : Type 0} {R : A → A → Type 0} {ys xs : List A} → Each (λ x. Each (R x) ys) xs → Ascending R xs → Ascending R ys →
     Ascending R (xs ++ ys)
 ascending-append no_member ended others = others
 ascending-append (one_more apart each) (before first ascending) others = before (each_append first apart) (ascending-append each ascending others)

@@ -1,1 +1,2 @@
 // What a sheet means (specs/) and the theorems about it (proofs/); no code.
+#![tactic(auto)]
