@@ -1,4 +1,5 @@
 // The program `bound`: reads four parameters, a budget and a sheet, and prints the figures and the lines of each loop, or the refusal.
+#![tactic(auto)]
 use libc::{STDIN_FILENO, STDOUT_FILENO};
 use text::{TEXT_LENGTH, blank_input, program_text};
 

@@ -1,4 +1,5 @@
 // Numbers in bytes and in decimal: read at an offset of a slice, and put into a buffer at a position.
+#![tactic(auto)]
 pub mod decimal;
 pub mod number;
 pub mod pattern;

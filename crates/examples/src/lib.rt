@@ -1,1 +1,2 @@
 // Computed examples of what a sheet means (proofs/), from raw bytes and state by state; no code.
+#![tactic(auto)]

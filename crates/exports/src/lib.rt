@@ -1,4 +1,5 @@
 // The calls that are exported to C.
+#![tactic(auto)]
 mod area;
 mod lent_sheet;
 mod lent_text;

@@ -1,4 +1,5 @@
 // Figures: the library call.
+#![tactic(auto)]
 mod repeat;
 
 ghost use Rattle.std.specs.Prelude.{◌≡◌};

@@ -1,4 +1,5 @@
 // Why a loop is not closed (document 02, C-11): the reason, its line, and the reason read back from a line.
+#![tactic(auto)]
 pub mod line;
 pub mod reading;
 

@@ -1,4 +1,5 @@
 // Records: kinds, limits, and a record with the fields of every kind, as the writer takes it and the reader gives it.
+#![tactic(auto)]
 pub mod loops;
 pub mod work;
 

@@ -1,4 +1,5 @@
 // Sheets: the record reader and the reader.
+#![tactic(auto)]
 pub mod head;
 pub mod nesting;
 pub mod reader;

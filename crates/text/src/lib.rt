@@ -1,4 +1,5 @@
 // The text that the program `bound` prints.
+#![tactic(auto)]
 mod lines;
 mod loop_lines;
 

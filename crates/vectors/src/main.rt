@@ -1,5 +1,6 @@
 // Runs the stored cases of the reader, the writer, the plan, the calls, the stage, the texts, the reasons' lines, the converters and
 // the calls over a range, and says how many there are and how many differ.
+#![tactic(auto)]
 mod calls;
 mod cases;
 mod compare;
