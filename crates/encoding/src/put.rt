@@ -5,13 +5,14 @@ ghost use Rattle.meaning.specs.Number.{little_endian, encode_signed};
 ghost use Rattle.encoding.specs.Append.{Appended};
 
 use crate::pattern::{eight_bytes, pattern64, two_bytes};
-use bytes::copy;
 
 pub fn put(buffer: &mut [u8], at: usize, bytes: &[u8]) -> usize
     requires { at + length bytes.now ≤ length buffer.old }
     ensures { Appended buffer.old at bytes.now buffer.new result }
 {
-    at + copy(bytes, &mut buffer[at..])
+    let next = at + bytes.len();
+    buffer[at..next].copy_from_slice(bytes);
+    next
 }
 
 pub fn put_byte(buffer: &mut [u8], at: usize, byte: u8) -> usize

@@ -18,14 +18,14 @@ use layout::rows::{ROW_NUMBERS, Rows};
 use planner::{PlanAnswer, plan};
 use sheet::refusal::Refusal;
 
-#[derive(Drop)]
+#[derive(Clone, Copy)]
 pub struct Figures {
     pub least: u64,
     pub most: u64,
     pub visits: u64,
 }
 
-#[derive(Drop)]
+#[derive(Clone, Copy)]
 pub enum Answer {
     Figured(Figures),
     Refused(Refusal),

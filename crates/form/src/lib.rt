@@ -23,7 +23,7 @@ pub type PerLoop = [i64; MAX_DEPTH];
 pub type Parameters = [i16; PARAMETER_FACTORS];
 
 // A factor has 16 bits, which is room for the difference of two factors of a sheet.
-#[derive(Drop)]
+#[derive(Clone, Copy)]
 pub struct Form {
     pub constant: i64,
     pub index: [i16; INDEX_FACTORS],
@@ -31,7 +31,7 @@ pub struct Form {
 }
 
 // The smallest value and the largest.
-#[derive(Drop)]
+#[derive(Clone, Copy)]
 pub struct Range {
     pub lo: i64,
     pub hi: i64,

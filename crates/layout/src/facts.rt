@@ -7,7 +7,7 @@ use crate::{MAX_LOOPS, position, put, wide};
 
 // Of one loop: its ceiling; how many of the loops around it stand around the innermost choice around it, and how many of them the choices around it
 // keep from being ranked; whether its smallest D is as large as closing a loop around it asks.
-#[derive(Drop)]
+#[derive(Clone, Copy)]
 pub struct Fact {
     pub ceiling: u16,
     pub choice: u16,

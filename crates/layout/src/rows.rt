@@ -23,7 +23,7 @@ pub const NEXT_ARM: u16 = 4;
 // Of one record: its role; its costs, least and most of straight work or start and step of a loop; the number of its end; the number of
 // the record that it stands in, plus 1; how many records are open around it, and how many of these are loops; how many loops stand
 // before it; its offset in the sheet; what a loop costs where it makes no trip.
-#[derive(Drop)]
+#[derive(Clone, Copy)]
 pub struct Row {
     pub role: u16,
     pub first: u16,

@@ -26,7 +26,7 @@ use sheet::head::body_at;
 use sheet::nesting::Nesting;
 
 // The indexes of the open loops, an entry for each depth: from lo to hi, and where every counter is 0.
-#[derive(Drop)]
+#[derive(Clone, Copy)]
 pub struct Around {
     pub lo: PerLoop,
     pub hi: PerLoop,
@@ -35,7 +35,7 @@ pub struct Around {
 
 // The size of a loop's stride, the stride, the smallest D that closing asks of it, its forms with the parameters' shares in their
 // constants, and whether it counts down.
-#[derive(Drop)]
+#[derive(Clone, Copy)]
 pub struct Forms {
     pub size: u64,
     pub stride: i64,
@@ -47,14 +47,14 @@ pub struct Forms {
 }
 
 // How many of the loops around a loop the innermost choice around it keeps from being closed: those around the choice; and how many from being ranked.
-#[derive(Drop)]
+#[derive(Clone, Copy)]
 pub struct Barred {
     pub choice: usize,
     pub rank: usize,
 }
 
 // A loop's ceiling, and whether its smallest D is as large as closing asks.
-#[derive(Drop)]
+#[derive(Clone, Copy)]
 pub struct Extent {
     pub ceiling: u64,
     pub enough: bool,

@@ -13,7 +13,7 @@ use records::loops::Loop;
 use std::num::{wrapping_add_u64, wrapping_sub_u64};
 
 // C(n, 1) to C(n, 4), the weights of the differences of order 0 to 3; those past the known values are 0.
-#[derive(Drop)]
+#[derive(Clone, Copy)]
 pub struct Weights {
     pub one: u64,
     pub two: u64,

@@ -24,7 +24,7 @@ use state::sums::{LEAST, MOST, Sums, VISITS, add, begin_visit, smaller};
 use trips::{further, limit_unless, limit_within, trips_at, visited_by};
 
 // Where the stage stands after a record, how many loops are open there, and whether a visit begins.
-#[derive(Drop)]
+#[derive(Clone, Copy)]
 pub struct Outcome {
     pub at: usize,
     pub depth: usize,

@@ -23,7 +23,7 @@ use nest::lay_rows;
 use sheet::reader::{ReadAnswer, check_sheet};
 use sheet::refusal::Refusal;
 
-#[derive(Drop)]
+#[derive(Clone, Copy)]
 pub enum PlanAnswer {
     Count(usize),
     Refused(Refusal),

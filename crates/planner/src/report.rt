@@ -12,14 +12,14 @@ use layout::limits::{Limits, limit_at, ranked_at};
 use layout::rows::{LOOP, Rows, loop_at, offset_at, role_at};
 use reasons::Found;
 
-#[derive(Drop)]
+#[derive(Clone, Copy)]
 pub enum Class {
     Closed,
     Ranked,
     Walked,
 }
 
-#[derive(Drop)]
+#[derive(Clone, Copy)]
 pub struct LoopReport {
     pub offset: u64,
     pub class: Class,
@@ -27,7 +27,7 @@ pub struct LoopReport {
     pub reason: Found,
 }
 
-#[derive(Drop)]
+#[derive(Clone, Copy)]
 pub enum Report {
     OfLoop(LoopReport),
     Nothing,

@@ -4,7 +4,7 @@ ghost use Rattle.ranking.specs.Lead.{at_least, joined_series, turned_series, fir
 
 use crate::series::Series;
 
-#[derive(Drop)]
+#[derive(Clone, Copy)]
 pub struct Lead {
     pub largest: Series,
     pub attained: bool,

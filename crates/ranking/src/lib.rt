@@ -17,7 +17,7 @@ use records::MAX_RECORDS;
 const MAX_TRIP_ARMS: usize = MAX_RECORDS;
 
 // The comparison of the arms' most and of their least.
-#[derive(Drop)]
+#[derive(Clone, Copy)]
 pub struct Leads {
     pub most: Lead,
     pub least: Lead,

@@ -8,7 +8,7 @@ use std::num::{wrapping_add_u64, wrapping_sub_u64};
 const HALF: u64 = 0x8000_0000_0000_0000;
 
 // The coefficients of order 0 to 3, each plus 2^63, modulo 2^64; 0 for an order that is not known.
-#[derive(Drop)]
+#[derive(Clone, Copy)]
 pub struct Series {
     pub order0: u64,
     pub order1: u64,

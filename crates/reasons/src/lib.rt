@@ -4,7 +4,7 @@ pub mod line;
 pub mod reading;
 
 // Document 02: reason, with the offsets of choice C, loop K and loop M.
-#[derive(Drop)]
+#[derive(Clone, Copy)]
 pub enum Reason {
     // `choice C holds a loop`
     HoldsLoop(u16),
@@ -15,7 +15,7 @@ pub enum Reason {
 }
 
 // What a search or a reading found.
-#[derive(Drop)]
+#[derive(Clone, Copy)]
 pub enum Found {
     Because(Reason),
     Nothing,

@@ -6,7 +6,6 @@ ghost use Rattle.reasons.specs.View.{reason_in, found_in};
 
 use crate::line::{CHOICE, LOOP, REASON_LINE_LENGTH, put_reason_line, uneven_position};
 use crate::{Found, Reason};
-use check::same;
 
 // An offset has 16 bits, and so is below this.
 const OFFSET_LIMIT: u32 = 65536;
@@ -45,7 +44,7 @@ fn is_line(line: &[u8], reason: Reason) -> bool
 {
     let mut buffer = [0; REASON_LINE_LENGTH];
     let length = put_reason_line(&mut buffer, 0, reason);
-    same(&buffer[..length], line)
+    &buffer[..length] == line
 }
 
 pub fn read_reason(line: &[u8]) -> Found

@@ -31,7 +31,7 @@ pub const MAX_RECORD_LENGTH: usize = 1 + Loop::SKIP_BODY_LENGTH;
 
 pub const MAX_SHEET_LENGTH: usize = MAX_RECORDS * MAX_RECORD_LENGTH;
 
-#[derive(Drop)]
+#[derive(Clone, Copy)]
 pub struct Record {
     pub kind: u8,
     pub work: Work,

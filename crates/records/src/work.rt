@@ -5,7 +5,7 @@ ghost use Rattle.records.specs.View.{work_of};
 
 use encoding::number::unsigned16_at;
 
-#[derive(Drop)]
+#[derive(Clone, Copy)]
 pub struct Work {
     pub least: u16,
     pub most: u16,

@@ -7,14 +7,14 @@ use crate::refusal::Refusal;
 use records::{body_length, is_kind};
 
 // A record's kind, and where its body begins and how long it is.
-#[derive(Drop)]
+#[derive(Clone, Copy)]
 pub struct Head {
     pub kind: u8,
     pub offset: usize,
     pub length: usize,
 }
 
-#[derive(Drop)]
+#[derive(Clone, Copy)]
 pub enum HeadAnswer {
     Found(Head),
     End,

@@ -13,7 +13,7 @@ use records::work::Work;
 use records::{CHOICE, END, MAX_OPEN, NEXT_ARM, SKIP_LOOP, WORK, is_loop};
 
 // How many records are open, how many of these are loops, and which: bit 0 of `loops` is 1 where the innermost is a loop, and so on outward.
-#[derive(Drop)]
+#[derive(Clone, Copy)]
 pub struct Nesting {
     pub size: usize,
     pub depth: usize,
@@ -24,13 +24,13 @@ pub struct Nesting {
 const DIGITS: u64 = 1 << (MAX_OPEN - 1);
 
 // A record that is in its place: its length, and what is open after it.
-#[derive(Drop)]
+#[derive(Clone, Copy)]
 pub struct AcceptedRecord {
     pub length: usize,
     pub after: Nesting,
 }
 
-#[derive(Drop)]
+#[derive(Clone, Copy)]
 pub enum RecordAnswer {
     Accepted(AcceptedRecord),
     Refused(Refusal),

@@ -13,7 +13,7 @@ use crate::nesting::{Nesting, RecordAnswer, accept_record};
 use crate::refusal::Refusal;
 use records::{MAX_RECORDS, Record, Records};
 
-#[derive(Drop)]
+#[derive(Clone, Copy)]
 pub enum ReadAnswer {
     Count(usize),
     Refused(Refusal),

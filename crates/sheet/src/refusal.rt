@@ -1,5 +1,5 @@
 // A refusal of document 01: its number, and the offset of the record that it falls on.
-#[derive(Drop)]
+#[derive(Clone, Copy)]
 pub struct Refusal {
     pub number: u32,
     pub offset: usize,

@@ -12,20 +12,20 @@ use form::Parameters;
 use sheet::refusal::Refusal;
 
 // Cycles, with the smallest value that gives them.
-#[derive(Drop)]
+#[derive(Clone, Copy)]
 pub struct Extreme {
     pub cycles: u64,
     pub value: i16,
 }
 
-#[derive(Drop)]
+#[derive(Clone, Copy)]
 pub struct Extremes {
     pub least: Extreme,
     pub most: Extreme,
     pub visits: u64,
 }
 
-#[derive(Drop)]
+#[derive(Clone, Copy)]
 pub enum RangeAnswer {
     Found(Extremes),
     Refused(Refusal),

@@ -18,7 +18,7 @@ use sheet::refusal::Refusal;
 pub type Cycles = [u64; MAX_VALUES];
 
 // The visits added up, or a refusal.
-#[derive(Drop)]
+#[derive(Clone, Copy)]
 pub enum OverAnswer {
     Visits(u64),
     Refused(Refusal),

@@ -8,7 +8,7 @@ use form::Parameters;
 use form::packed::PARAMETER_FACTORS;
 
 // The values first, first + 1, .., last of parameter 1, 2, 3 or 4.
-#[derive(Drop)]
+#[derive(Clone, Copy)]
 pub struct ParameterRange {
     pub number: u32,
     pub first: i16,

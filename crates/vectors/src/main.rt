@@ -21,7 +21,7 @@ use libc::STDOUT_FILENO;
 use text::TEXT_LENGTH;
 
 // Cases met so far, and how many of them came out otherwise than reckoned.
-#[derive(Drop)]
+#[derive(Clone, Copy)]
 struct Tally {
     readings: u64,
     writings: u64,

@@ -24,7 +24,7 @@ use records::{LOOP, MAX_RECORDS, MAX_SHEET_LENGTH, Record, Records, SKIP_LOOP, W
 use sheet::nesting::{Nesting, RecordAnswer, accept_record};
 use sheet::refusal::Refusal;
 
-#[derive(Drop)]
+#[derive(Clone, Copy)]
 pub enum WriteAnswer {
     Length(usize),
     Refused(Refusal),
