@@ -35,10 +35,10 @@ module _ (sheet : List ℕ) (ps : List ℤ) (range : ParameterRange) where
 
   -- where the value is accepted
   module _ (count k : ℕ) {rs : List Record} (a : accepted sheet (parameters_at range ps k) ≡ ok rs) where
-    pub with_first : {fs : List Figures} → figures_from sheet ps range count (suc k) ≡ ok fs →
+    pub with-first : {fs : List Figures} → figures_from sheet ps range count (suc k) ≡ ok fs →
         figures_from sheet ps range (suc count) k ≡ ok (figures_of (parameters_at range ps k) (tree rs) ∷ fs)
     unfolding figures_from
-    with_first e = and_then-yes (and_others count k) a ∙ and_then-yes (with_first k rs) e
+    with-first e = and_then-yes (and_others count k) a ∙ and_then-yes (with_first k rs) e
 
     pub others-refused : {number place : ℕ} → figures_from sheet ps range count (suc k) ≡ refused number place →
         figures_from sheet ps range (suc count) k ≡ refused number place

@@ -12,7 +12,7 @@ use Rattle.meaning.specs.Answer.{Figures, accepted, figures_of}
 use Rattle.meaning.proofs.Logic.{ok-injective}
 use Rattle.ranges.specs.ParameterRange.{ParameterRange, parameters_at}
 use Rattle.ranges.specs.FiguresOver.{total_visits, figures_from}
-use Rattle.ranges.proofs.FirstValue.{first-figured, with_first, others-refused, first-refused}
+use Rattle.ranges.proofs.FirstValue.{first-figured, with-first, others-refused, first-refused}
 
 pub visits-more : (fs : List Figures) (f : Figures) → total_visits (fs ++ (f ∷ [])) ≡ total_visits fs + f.visits
 unfolding total_visits
@@ -32,13 +32,13 @@ module _ (sheet : List ℕ) (ps : List ℤ) (range : ParameterRange) where
   unfolding figures_from
   one-value-more zero k fs rs e a =
       let plain : zero + k ≡ k = omega arith in
-      with_first sheet ps range zero k (ap (λ n. accepted sheet (at n)) (sym plain) ∙ a) refl
+      with-first sheet ps range zero k (ap (λ n. accepted sheet (at n)) (sym plain) ∙ a) refl
       ∙ (λ t. with_last (ok-injective e t) (sym plain t) rs)
   one-value-more (suc count) k fs rs e a =
       let first = first-figured sheet ps range count k fs e in
       let moved : count + suc k ≡ suc count + k = omega arith in
       let later = one-value-more count (suc k) first.others rs first.others_are (ap (λ n. accepted sheet (at n)) moved ∙ a) in
-      with_first sheet ps range (suc count) k first.accepted_as later ∙ (λ t. with_last (sym first.same t) (moved t) rs)
+      with-first sheet ps range (suc count) k first.accepted_as later ∙ (λ t. with_last (sym first.same t) (moved t) rs)
 
   -- where the next one is refused, so is every longer range
   pub one-value-refused : (count k more number place : ℕ) (fs : List Figures) → figures_from sheet ps range count k ≡ ok fs →

@@ -18,7 +18,7 @@ use Rattle.meaning.proofs.Answers.{BudgetInRange, BudgetOutOfRange, budget-decid
 use Rattle.ranges.specs.ParameterRange.{ParameterRange, value_count, parameters_at, range_allowed}
 use Rattle.ranges.specs.FiguresOver.{total_visits, figures_from, check_total, figures_over}
 use Rattle.ranges.specs.Extremes.{extremes_of, extremes}
-use Rattle.ranges.proofs.FirstValue.{with_first, others-refused, first-refused}
+use Rattle.ranges.proofs.FirstValue.{with-first, others-refused, first-refused}
 
 module _ (sheet : List ℕ) (ps : List ℤ) (range : ParameterRange) where
   abbrev at : ℕ → List ℤ
@@ -60,7 +60,7 @@ module _ (sheet : List ℕ) (ps : List ℤ) (range : ParameterRange) where
 
       by-others : Others → (rs : List Record) → accepted sheet (at k) ≡ ok rs → (r : Result (List Figures)) → figures_from sheet ps range count (suc k) ≡ r →
           FirstRefused k (suc count) number place
-      by-others others rs a (ok fs) f = refused-is-not-ok (sym e ∙ with_first sheet ps range count k a f)
+      by-others others rs a (ok fs) f = refused-is-not-ok (sym e ∙ with-first sheet ps range count k a f)
       by-others others rs a (refused n p) f =
           let same = sym (others-refused sheet ps range count k a f) ∙ e in
           later rs a (others (f ∙ (λ t. refused (refused-number same t) (refused-place same t))))
