@@ -9,16 +9,15 @@ use lib.ListN.{length, take, drop, set, length-append, length-drop, take-append-
 use lib.Seq.{length-take-le, take_all, take_at, drop_at, take-length, drop-append-add, drop-drop, append_snoc, set_split}
 use Rattle.encoding.specs.Append.{written, Appended}
 
--- a copy of the bytes to where the buffer's part from `at` on begins
-pub copied : {before : List ℕ} {at : ℕ} {bytes part : List ℕ} {n : ℕ} → at + length bytes ≤ length before → n ≡ length bytes
-    → part ≡ take (length bytes) bytes ++ drop (length bytes) (take (length before - at) (drop at before))
-    → Appended before at bytes (take at before ++ (part ++ drop (length before - at) (drop at before))) (at + n)
+-- a copy of the bytes to the part of the buffer from `at` on that is as long as they are
+pub copied : {before : List ℕ} {at : ℕ} {bytes part : List ℕ} {n : ℕ} → at + length bytes ≤ length before → n ≡ length bytes → part ≡ bytes
+    → Appended before at bytes (take at before ++ (part ++ drop n (drop at before))) (at + length bytes)
 unfolding written
-copied {before} {at} {bytes} {part} room e f =
-    let rest : length (drop at before) ≤ length before - at = omega (arith, length-drop at before) in
-    let all : part ++ drop (length before - at) (drop at before) ≡ bytes ++ drop (at + length bytes) before =
-    rw (f, take-length bytes, take_all (length before - at) (drop at before) rest, drop_of_length-le (drop at before) rest, append-nil, drop-drop) in
-    record { fits = room; stored = rw (all, append_assoc); ends = ap (λ (k : ℕ). at + k) e }
+copied {before} {at} {bytes} {part} {n} room e f = record {
+  fits = room;
+  stored = rw (f, e, drop-drop, append_assoc);
+  ends = refl;
+}
 
 -- one byte
 pub stored-byte : {before : List ℕ} {at byte : ℕ} → at < length before → Appended before at (byte ∷ []) (set before at byte) (at + 1)

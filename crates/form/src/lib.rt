@@ -1,5 +1,6 @@
 // Forms as the reckoning takes them: subtract, range, push, and the value at given indexes.
 #![tactic(auto)]
+
 pub mod packed;
 
 ghost use Rattle.std.specs.Prelude.{◌≡◌, [], ◌∷◌, map, cond, ◌*◌, ◌^◌, ◌≤◌, pos, nat_abs, ◌-ℤ◌, ◌*ℤ◌, get_or};

@@ -1,0 +1,7 @@
+-- One byte is stored at the position, and the others stay.
+use borrow.Author.Rules.{rules}
+use Rattle.encoding.proofs.Appending.{stored-byte}
+use Rattle.encoding.proofs.put.put_byte.Goals as goal
+
+pub returns : goal.returns
+returns c = stored-byte c.requires

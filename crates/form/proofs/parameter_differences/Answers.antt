@@ -1,0 +1,34 @@
+-- The four differences are those of the lists, one by one.
+use mathlib.Core.Path.{◌≡◌, ap₂, ◌∙◌}
+use mathlib.Core.List.{[], ◌∷◌}
+use lib.ListN.{length}
+use borrow.Author.Rules.{rules}
+use Rattle.whole.specs.Integer.{subtract_lists}
+use Rattle.meaning.specs.Limits.{parameter_factors}
+use Rattle.form.proofs.Reckoned.{difference-read}
+use Rattle.form.proofs.FormLists.{at, four_are}
+use Rattle.form.proofs.parameter_differences.Goals as goal
+
+pub returns : goal.returns
+returns c =
+    let third = c in
+    let second = third in
+    let first = second in
+    let start = first in
+    let xs = start.args.x in
+    let ys = start.args.y in
+    let lx : length xs ≡ parameter_factors = search rules in
+    let ly : length ys ≡ parameter_factors = search rules in
+    let e1 =
+    difference-read (at xs 0) (at ys 0) first.difference-arg-1.given first.difference-arg-2-1.given
+    first.difference.type_inv first.difference.ensures in
+    let e2 =
+    difference-read (at xs 1) (at ys 1) second.difference-arg-3-1.given second.difference-arg-4-1.given
+    second.difference-2.type_inv second.difference-2.ensures in
+    let e3 =
+    difference-read (at xs 2) (at ys 2) third.difference-arg-5-1.given third.difference-arg-6-1.given
+    third.difference-3.type_inv third.difference-3.ensures in
+    let e4 =
+    difference-read (at xs 3) (at ys 3) c.difference-arg-7-1.given c.difference-arg-8-1.given
+    c.difference-4.type_inv c.difference-4.ensures in
+    (λ i. e1 i ∷ e2 i ∷ e3 i ∷ e4 i ∷ []) ∙ ap₂ subtract_lists (four_are xs lx) (four_are ys ly)
