@@ -1,5 +1,6 @@
 // Records: kinds, limits, and a record with the fields of every kind, as the writer takes it and the reader gives it.
 #![tactic(auto)]
+
 pub mod loops;
 pub mod work;
 

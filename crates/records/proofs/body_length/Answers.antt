@@ -6,27 +6,23 @@ use Prim.Native.Nat.{ℕ}
 use Rattle.meaning.specs.Record.{Kind, work_kind, loop_kind, kind_number, body_length}
 use Rattle.records.specs.View.{length_of, length_of_kind}
 use Rattle.records.proofs.ByKind.{by_kind, named}
-use Rattle.records.proofs.body_length.Statement.{statement}
-use Rattle.records.proofs.body_length.Tie as tie
+use Rattle.records.proofs.body_length.Goals as goal
 
-returns : tie.Need-returns
+pub returns-then-kind-eq-WORK : goal.returns-then-kind-eq-WORK
 unfolding length_of_kind length_of body_length kind_number
-returns c = sym (ap length_of (named work_kind c.if1.true))
+returns-then-kind-eq-WORK c = sym (ap length_of (named work_kind c.if-kind-eq-WORK.true))
 
-returns-2 : tie.Need-returns-2
+pub returns-then-kind-eq-LOOP : goal.returns-then-kind-eq-LOOP
 unfolding length_of_kind length_of body_length kind_number
-returns-2 c = sym (ap length_of (named (loop_kind false) c.if2.true))
+returns-then-kind-eq-LOOP c = sym (ap length_of (named (loop_kind false) c.if-kind-eq-LOOP.true))
 
-returns-3 : tie.Need-returns-3
+pub returns-then-kind-eq-SKIP_LOOP : goal.returns-then-kind-eq-SKIP_LOOP
 unfolding length_of_kind length_of body_length kind_number
-returns-3 c = sym (ap length_of (named (loop_kind true) c.if3.true))
+returns-then-kind-eq-SKIP_LOOP c = sym (ap length_of (named (loop_kind true) c.if-kind-eq-SKIP_LOOP.true))
 
-returns-4 : tie.Need-returns-4
+pub returns : goal.returns
 unfolding length_of_kind length_of body_length
-returns-4 c =
+returns c =
     by_kind (λ (n : ℕ) (k : Option Kind). (n ≡ 1 → ⊥) → (n ≡ 2 → ⊥) → (n ≡ 6 → ⊥) → 0 ≡ length_of k)
     (λ h _ _. absurd (h refl)) (λ _ h _. absurd (h refl)) (λ _ _ _. refl) (λ _ _ _. refl) (λ _ _ _. refl) (λ _ _ h. absurd (h refl)) (λ n _ _ _ _. refl)
-    _ c.before.before.if1.false c.before.if2.false c.if3.false
-
-pub body-length-spec : {M : Type 1} → statement M
-body-length-spec = tie.close (tie.spec returns returns-2 returns-3 returns-4)
+    _ c.if-kind-eq-WORK.false c.if-kind-eq-LOOP.false c.if-kind-eq-SKIP_LOOP.false
