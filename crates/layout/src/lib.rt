@@ -1,6 +1,7 @@
 // The layout of a plan: what one call works out of a sheet and the parameters, as arrays of numbers that are lent.
 // Arrays may hold any numbers, and a record or a loop any number: remainders keep positions in the arrays, and change nothing in a plan.
 #![tactic(auto)]
+
 pub mod differences;
 pub mod facts;
 pub mod limits;
