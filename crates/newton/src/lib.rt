@@ -1,5 +1,6 @@
 // A closed loop's sum from its first trips, by Newton's forward differences, modulo 2^64.
 #![tactic(auto)]
+
 pub mod product;
 
 ghost use Rattle.std.specs.Prelude.{◌≡◌, ◌-◌, ◌^◌, min, if◌then◌else◌, nat_le};
