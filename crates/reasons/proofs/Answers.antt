@@ -1,28 +1,29 @@
 -- The reason that a line reads back to, from the three that the code tries one after another.
 use mathlib.Core.Path.{◌≡◌, refl, sym, ap, subst, ◌∙◌}
 use mathlib.Core.List.{List, [], ◌∷◌}
-use mathlib.Core.Bool.{Bool, true, false, cond}
+use mathlib.Core.Bool.{Bool, true, false, cond, ◌&&◌}
 use mathlib.Core.Option.{Option, none, some}
 use Prim.Native.Nat.{ℕ}
+use lib.Dec.{eqb}
 use lib.ListN.{length}
+use lib.Pointwise.{pointwise}
 use Rattle.meaning.specs.Text.{text}
 use Rattle.meaning.specs.Reason.{Reason, holds_loop, too_few_trips, uneven_in}
 use Rattle.meaning.specs.ReasonLine.{choice_phrase, loop_phrase, uneven_line_start, reason_line, number_at, same_text, first_with_line, read_reason, ReadsBack}
-use Rattle.meaning.proofs.ReasonLines.{same-itself, same-equal, reads-back}
+use Rattle.meaning.proofs.ReasonLines.{reads-back}
 
--- a comparison's answer is the test of the definition
-pub same_answer : (answer : Bool) (x y : List ℕ) → (answer ≡ true → x ≡ y) → (x ≡ y → answer ≡ true) → answer ≡ same_text x y
-same_answer true x y equal is = sym (ap (same_text x) (sym (equal refl)) ∙ same-itself x)
-same_answer false x y equal is = go (same_text x y) refl
-  where
-    go : (b : Bool) → same_text x y ≡ b → false ≡ b
-    go true e = is (same-equal x y e)
-    go false e = refl
+-- the library's comparison of slices is the test of the definition
+pub same_pointwise : (x y : List ℕ) → pointwise eqb x y ≡ same_text x y
+unfolding same_text
+same_pointwise [] [] = refl
+same_pointwise [] (d ∷ ds) = refl
+same_pointwise (c ∷ cs) [] = refl
+same_pointwise (c ∷ cs) (d ∷ ds) = ap (λ (b : Bool). eqb c d && b) (same_pointwise cs ds)
 
 module _ (line : List ℕ) where
-  -- an answer that is the definition's says all that reading back asks
-  pub exact : {found : Option Reason} → found ≡ read_reason line → (found ≡ read_reason line) × ReadsBack line found
-  exact e = (e, subst (ReadsBack line) (sym e) (reads-back line))
+  -- an answer that is the definition's reads the line back
+  pub exact_found : {found : Option Reason} → found ≡ read_reason line → ReadsBack line found
+  exact_found e = subst (ReadsBack line) (sym e) (reads-back line)
 
   module _ {c k m : ℕ} (choice_at : c ≡ number_at (length (text choice_phrase)) line) (loop_at : k ≡ number_at (length (text loop_phrase)) line)
       (outer_at : m ≡ number_at (length (uneven_line_start k)) line) where

@@ -1,5 +1,6 @@
 // Why a loop is not closed (document 02, C-11): the reason, its line, and the reason read back from a line.
 #![tactic(auto)]
+
 pub mod line;
 pub mod reading;
 

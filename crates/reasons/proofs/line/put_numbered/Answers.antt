@@ -1,0 +1,11 @@
+-- The offset is put where the phrase ends; it has at most 20 digits.
+use native.Mathlib.Omega.{arith}
+use Rattle.encoding.proofs.Appending.{and_then}
+use Rattle.reasons.proofs.line.put_numbered.Goals as goal
+
+pub returns : goal.returns
+returns c =
+    record {
+      appended = and_then c.put-at.ensures c.put_decimal.ensures.appended;
+      short = omega arith;
+    }
