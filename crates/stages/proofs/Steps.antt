@@ -27,7 +27,7 @@ use Rattle.state.specs.Kept.{kept_from, kept_room, first_trips, forgotten, held_
 use Rattle.state.specs.Arms.{arm_kept, arms_dropped}
 use Rattle.state.proofs.ArmLaws.{all_arms}
 use Rattle.trips.specs.Trips.{limit_now, trips_at, visited_by}
-use Rattle.state.proofs.Innermost.{all_counters, all_frames, all_kept, counter-blank, counter-top, frame-blanked, frame_opened, kept-blank, counter-set, kept-forgotten}
+use Rattle.state.proofs.Innermost.{all_counters, all_frames, all_kept, counter-blank, counter-top, frame-blanked, frame-opened, kept-blank, counter-set, kept-forgotten}
 use Rattle.state.proofs.Innermost.{passed-around, arm-joins, first-arm-joins, sums-around, trip-joins, trip-kept}
 use Rattle.passing.specs.Pass.{begins, goes_on, open_choice, pass_choice, pass_choice_where, pass_straight_work, straight_work_from, straight_work_on, StraightWork, Passage}
 use Rattle.passing.specs.Pass.{keeps_arms_at, open_arm_kept, leave_arm, enter_loop, enter_with, pass_loop, pass_loop_where, end_trip, end_trip_where, AfterTrip, further_trip, unsettled_trip, loop_left}
@@ -132,7 +132,7 @@ module _ (ps : List ℤ) where
         ap (λ (m : ℕ). pass_choice_where rows limits (eqb m 3) s) role
         ∙ ap (λ (f : List ℕ). state_with (n + 1) (0 ∷ 0 ∷ v ∷ []) (with_frames (open_of ps fs a) f))
         (ap (λ (o : ℕ). frame_opened (all_frames (frame_numbers ps fs)) o (c.least ∷ c.most ∷ v ∷ [])) frame
-        ∙ frame_opened (frame_numbers ps fs) (length fs) (frames-length fs) room (c.least ∷ c.most ∷ v ∷ []))
+        ∙ frame-opened (frame_numbers ps fs) (length fs) (frames-length fs) room (c.least ∷ c.most ∷ v ∷ []))
 
     -- the open arm among those passed
     arm-passed : (passed : Option Bounds) (enclosing c : Bounds) (v : ℕ) (fs : List Frame) → length fs < open_limit →
@@ -248,7 +248,7 @@ module _ (ps : List ℤ) where
             let d : ℕ = open_loops fs in
             let visits : wrapped_sum v 1 ≡ suc v = wrapped_exact v 1 (omega arith) ∙ (let z : v + 1 ≡ suc v = omega arith in z) in
             let frames = ap (λ (o : ℕ). frame_opened (all_frames (frame_numbers ps fs)) o entered) frame
-            ∙ frame_opened (frame_numbers ps fs) (length fs) (frames-length fs) room entered
+            ∙ frame-opened (frame_numbers ps fs) (length fs) (frames-length fs) room entered
             ∙ ap (λ (ns : List ℕ). all_frames (frame_numbers ps fs ++ ((c.least + entry_cost l trips) ∷ (c.most + entry_cost l trips) ∷ ns))) (sym (sum-none each)) in
             let counters = sym (counter-blank (counter_numbers fs) d refl depth) in
             let trips-kept = sym (ap (λ (ns : List ℕ). all_kept (kept_numbers ps fs ++ filled (kept_room d) ns)) (each_none each) ∙ kept-blank (kept_numbers ps fs) d kept depth) in

@@ -109,9 +109,9 @@ module _ (xs : List ℕ) (frame : ℕ) (behind : length xs ≡ frame * frame_wid
       let more : part_length frame_part - frame * frame_width ≡ suc (suc (suc (suc (suc n)))) = omega arith in
       filled-short (part_length frame_part) (part_length frame_part - frame * frame_width) xs (omega arith) ∙ ap (λ (m : ℕ). xs ++ zeros m) more
 
-  pub frame_opened : (sums : List ℕ) → frame_opened (all_frames xs) frame sums ≡ all_frames (xs ++ (least_of sums ∷ most_of sums ∷ 0 ∷ 0 ∷ 0 ∷ []))
+  pub frame-opened : (sums : List ℕ) → frame_opened (all_frames xs) frame sums ≡ all_frames (xs ++ (least_of sums ∷ most_of sums ∷ 0 ∷ 0 ∷ 0 ∷ []))
   unfolding frame_opened with_pair
-  frame_opened sums =
+  frame-opened sums =
       ap (λ fs. frame_opened fs frame sums) frames-next ∙ bounds-behind (0 ∷ 0 ∷ 0 ∷ 0 ∷ 0 ∷ rest) around_column (least_of sums) (most_of sums)
       ∙ sym (frames-top (least_of sums) (most_of sums) 0 0 0)
 

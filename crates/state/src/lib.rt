@@ -1,5 +1,6 @@
 // The state of a stage, and the small steps that change it. What a remainder or a minimum cuts off stands in no state that a stage reaches.
 #![tactic(auto)]
+
 pub mod arms;
 pub mod frames;
 pub mod kept;
