@@ -1,7 +1,6 @@
 -- The records of an accepted sheet, decoded one after another into an array.
 use mathlib.Core.Path.{◌≡◌, refl, sym, ap, ◌∙◌, subst}
 use mathlib.Core.List.{List, [], ◌∷◌, ◌++◌, map, map-append, append_assoc}
-use mathlib.Core.Logic.{⊎_elim}
 use mathlib.Core.Option.{some}
 use Prim.Native.Nat.{ℕ, suc, ◌+◌, ◌-◌, ◌<◌, ◌≤◌}
 use native.Mathlib.Omega.{arith}
@@ -21,11 +20,8 @@ use Rattle.sheet.specs.declared.head.Head as D
 use Rattle.records.specs.View.{blank_record, record_in, decoded_as, decoded}
 use Rattle.sheet.specs.Answers.{head_result, counted, or_zero, with_blanks}
 use Rattle.sheet.specs.Sheets.{records_in, records_of}
-use Rattle.sheet.specs.contracts.head.HeadAnswer.{the_type}
 use Rattle.sheet.proofs.Heads.{head_in, answer-found, answer-body}
 use Rattle.sheet.proofs.SheetRecords.{few-records, next-offset, one_more, record-stands}
-use types.Run.{OneOf}
-use denote.Enum.Declared.{tag_of}
 
 -- ---- the records of a result
 
@@ -94,13 +90,13 @@ module _ {sheet : List ℕ} {count : ℕ} {records : List Record} {at number : �
     stands = subst (λ (n : ℕ). StandsAt sheet n this) (sym g.offset) (record-stands sheet number inside)
 
     -- the arm where no record stands is not reached
-    pub decoding-finds : {X : Type 0} (a : HeadAnswer) → head_result a ≡ head_at sheet at → OneOf (1 ∷ 2 ∷ []) (tag_of the_type a) → X
+    pub decoding-finds : {X : Type 0} (a : HeadAnswer) → head_result a ≡ head_at sheet at → ((h : D.Head) → a ≡ Found h → ⊥) → X
     decoding-finds {X} a found = go a (found ∙ stands.head_there)
       where
-        go : (x : HeadAnswer) → head_result x ≡ ok (some (record_head at this)) → OneOf (1 ∷ 2 ∷ []) (tag_of the_type x) → X
-        go (Found h) e t = absurd (⊎_elim (λ p. omega arith) (λ p. omega arith) t)
-        go End e t = none-is-not-some (ok-injective e)
-        go (Refused r) e t = refused-is-not-ok e
+        go : (x : HeadAnswer) → head_result x ≡ ok (some (record_head at this)) → ((h : D.Head) → x ≡ Found h → ⊥) → X
+        go (Found h) e other = absurd (other h refl)
+        go End e other = none-is-not-some (ok-injective e)
+        go (Refused r) e other = refused-is-not-ok e
 
     module _ {a : HeadAnswer} (found : head_result a ≡ head_at sheet at) {h : D.Head} (is : a ≡ Found h) where
       same_head : head_in h ≡ record_head at this

@@ -2,7 +2,7 @@
 use mathlib.Core.Path.{◌≡◌, refl, sym, ap, ◌∙◌}
 use mathlib.Core.List.{List, [], ◌∷◌}
 use mathlib.Core.Bool.{Bool, true, false}
-use mathlib.Core.Logic.{◌⊎◌, inl, inr, ⊎_elim}
+use mathlib.Core.Logic.{◌⊎◌, inl, inr}
 use mathlib.Core.Option.{Option, none, some}
 use Prim.Native.Nat.{ℕ, suc, ◌+◌, ◌-◌, ◌<◌, ◌≤◌}
 use native.Mathlib.Nat.{add-sub_cancel_left}
@@ -12,9 +12,6 @@ use borrow.Author.Tests.{le-leb, lt-leb, leb-true, leb-false}
 use lib.Dec.{leb, leb→le}
 use lib.ListN.{length, get_or, take, drop, length-drop, drop_of_length-le}
 use lib.Seq.{drop-cons}
-use types.Run.{OneOf}
-use denote.Enum.Declared.{tag_of}
-use Rattle.sheet.specs.contracts.head.HeadAnswer.{the_type}
 use Rattle.meaning.specs.Record.{Kind, kind_of, body_length}
 use Rattle.meaning.specs.Reader.{Result, ok, refused, require, or_refuse, and_then, Head, head_of, head_at, body_of, body_at}
 use Rattle.meaning.proofs.Logic.{none-is-not-some, true-is-not-false, ok-injective, and_then-ok, require-ok, or_refuse-ok}
@@ -173,8 +170,8 @@ module _ (sheet : List ℕ) (at : ℕ) {a : HeadAnswer} (found : head_result a �
       ap (λ (n : ℕ). take n (drop h.offset sheet)) (add-sub_cancel_left h.offset h.length) ∙ sym (body-found sheet at (answer-found e))
 
 -- the arm for the other two variants
-pub answer-none : (sheet : List ℕ) (at : ℕ) (a : HeadAnswer) → head_result a ≡ head_at sheet at → OneOf (1 ∷ 2 ∷ []) (tag_of the_type a) → [] ≡ body_at sheet at
+pub answer-none : (sheet : List ℕ) (at : ℕ) (a : HeadAnswer) → head_result a ≡ head_at sheet at → ((h : D.Head) → a ≡ Found h → ⊥) → [] ≡ body_at sheet at
 unfolding body_at body_of
-answer-none sheet at (Found h) e k = absurd (⊎_elim (λ p. omega arith) (λ p. omega arith) k)
-answer-none sheet at End e k = ap (body_of sheet) e
-answer-none sheet at (Refused r) e k = ap (body_of sheet) e
+answer-none sheet at (Found h) e other = absurd (other h refl)
+answer-none sheet at End e other = ap (body_of sheet) e
+answer-none sheet at (Refused r) e other = ap (body_of sheet) e

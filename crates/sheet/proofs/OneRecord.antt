@@ -11,7 +11,7 @@ use lib.Seq.{length-take-le}
 use lib.Dec.{leb}
 use Rattle.meaning.specs.Limits.{cost_limit, stride_limit}
 use Rattle.meaning.specs.Form.{form_in_range}
-use Rattle.meaning.specs.Record.{Kind, work_kind, loop_kind, end_kind, choice_kind, next_arm_kind, kind_of, body_length, record_length, kind, decode_record}
+use Rattle.meaning.specs.Record.{Kind, work_kind, loop_kind, end_kind, choice_kind, next_arm_kind, kind_of, body_length, record_length, decode_record}
 use Rattle.meaning.specs.Record.{stride_size, skip_cycles, Record, work_record, loop_record, end_record, choice_record, next_arm_record, Open, open_loop, loop_depth, fields_in_range, open_after}
 use Rattle.meaning.specs.Reader.{read_record_of, Result, ok, refused, require, or_refuse, and_then, Accepted, accept, read_record, Head, head_of, head_at}
 use Rattle.meaning.proofs.Logic.{refused-is-not-ok, true-is-not-false}

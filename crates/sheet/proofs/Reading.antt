@@ -149,7 +149,7 @@ module _ {sheet : List ℕ} {at count : ℕ} {here : Nesting} (g : Reading sheet
     at-end : (os : List Open) (left : ℕ) → read_from left at os [] ≡ end_of_sheet at os []
     unfolding read_from_of
     at-end os zero = refl
-    at-end os (suc left) = refl
+    at-end os (suc n) = refl
 
     all_read : counted (read sheet) ≡ counted (prepend g.done (end_of_sheet at g.os []))
     all_read =

@@ -1,5 +1,6 @@
 // Sheets: the record reader and the reader.
 #![tactic(auto)]
+
 pub mod head;
 pub mod nesting;
 pub mod reader;

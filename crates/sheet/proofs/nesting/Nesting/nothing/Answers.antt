@@ -2,12 +2,8 @@
 use mathlib.Core.Path.{refl}
 use Rattle.meaning.specs.Record.{loop_depth}
 use Rattle.sheet.specs.Nestings.{nesting_of, loop_bits}
-use Rattle.sheet.proofs.nesting.Nesting.nothing.Statement.{statement}
-use Rattle.sheet.proofs.nesting.Nesting.nothing.Tie as tie
+use Rattle.sheet.proofs.nesting.Nesting.nothing.Goals as goal
 
-returns : tie.Need-returns
+pub returns : goal.returns
 unfolding nesting_of loop_depth loop_bits
 returns c = refl
-
-pub nothing-spec : {M : Type 1} → statement M
-nothing-spec = tie.close (tie.spec returns)
