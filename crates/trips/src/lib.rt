@@ -1,5 +1,6 @@
 // A loop's trips, from the counters of the loops around it, and how many of them are visited.
 #![tactic(auto)]
+
 ghost use Rattle.std.specs.Prelude.{◌≡◌, suc, ◌/◌, ◌≤◌, max, if◌then◌else◌, nat_lt};
 ghost use Rattle.meaning.specs.Limits.{depth_limit};
 ghost use Rattle.state.specs.Open.{counters_in};
