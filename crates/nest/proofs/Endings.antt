@@ -1,5 +1,4 @@
 -- What the code reads at a record's offset; the end of a record, found by the roles of the records after it.
-use mathlib.Core.Option.{none}
 use mathlib.Core.List.{List, [], ◌∷◌}
 use mathlib.Core.Path.{ap, ap₂, refl, subst, sym, ◌∙◌, ◌≡◌}
 use mathlib.Core.Bool.{cond}

@@ -1,5 +1,4 @@
 -- The walk that lays the rows: what it carries from one record to the next, and the rows laid so far.
-use Rattle.meaning.specs.Tree.{empty}
 use mathlib.Core.List.{List, [], ◌∷◌, ◌++◌}
 use mathlib.Core.Path.{ap, ap₂, refl, subst, sym, ◌∙◌, ◌≡◌}
 use Prim.Native.Nat.{◌%◌, ◌+◌, ◌-◌, ◌<◌, ◌^◌, suc, ℕ, ◌≤◌, ◌/◌}

@@ -1,5 +1,6 @@
 // The rows of a plan: what the reader says of each record.
 #![tactic(auto)]
+
 ghost use Rattle.std.specs.Prelude.{◌≡◌, List, ℕ, ◌+◌, ◌^◌, ◌<◌, length, get_or, drop};
 ghost use Rattle.meaning.specs.Record.{end_record};
 ghost use Rattle.layout.specs.Numbers.{stored_in};

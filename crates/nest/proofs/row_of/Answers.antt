@@ -1,0 +1,24 @@
+-- Each number of the row is read of the record that stands at `at`, or carried there; a row has the last 16 bits of what is wider.
+use mathlib.Core.Path.{ap, ◌∙◌}
+use Prim.Native.Nat.{ℕ, ◌%◌, ◌^◌}
+use Rattle.nest.proofs.Endings.{next-by-body, next-inside}
+use Rattle.nest.proofs.RowWalk.{row_is}
+use native.Mathlib.Omega.{arith}
+use Rattle.nest.proofs.row_of.Goals as goal
+
+pub overflow_add-at : goal.overflow_add-at
+overflow_add-at c =
+    let next = next-by-body c.requires c.body_at-body.ensures in
+    record { fits = omega (arith, next, next-inside c.requires, c.well_formed) }
+
+pub end_of-end-requires : goal.end_of-end-requires
+end_of-end-requires c =
+    let known = c.requires in
+    record { all = known.all; there = known.there; offset = next-by-body known c.body_at-body.ensures }
+
+pub returns : goal.returns
+returns c =
+    let end = c.narrow.ensures ∙ ap (λ (n : ℕ). n % 2 ^ 16) c.end_of-end.ensures in
+    row_is c.requires c.byte_at-kind.ensures c.body_at-body.ensures c.role_of-role.ensures
+    c.cost-first.ensures c.cost-second.ensures c.skip_cost-skip.ensures end c.narrow-2.ensures c.narrow-3.ensures
+    c.narrow-4.ensures
