@@ -3,9 +3,9 @@ use Rattle.std.proofs.Common.{◌≡◌, ℕ, zero, suc, ◌<◌, ◌≤◌, Boo
 use lib.ListN.{get_or-append}
 use lib.Seq.{get_or_at}
 use Rattle.meaning.specs.Tree.{Block}
-use Rattle.meaning.specs.Time.{Bounds, trips}
+use Rattle.meaning.specs.Time.{Bounds}
 use Rattle.meaning.specs.ClosedSum.{first_sums}
-use Rattle.meaning.specs.Settled.{all_settled, choices_sums, settled}
+use Rattle.meaning.specs.Settled.{all_settled, choices_sums}
 use Rattle.meaning.proofs.RankedArms.{choices_times, kept-choices}
 use Rattle.ranking.specs.Settled.{trip_arms_limit, settled_choices, direct_arms, trip_numbers, sums_at, Kept}
 use Rattle.ranking.proofs.ArmSizes.{AllBelow, Below, below_at, choices-times-length}

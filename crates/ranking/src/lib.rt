@@ -1,6 +1,7 @@
 // Whether the choices of a ranked loop are settled, from the sums of their arms in its first trips: `numbers` has, trip after trip and arm after arm, the
 // least and the most, `arms` arms in each of `count` trips.
 #![tactic(auto)]
+
 pub mod body;
 pub mod lead;
 pub mod series;
