@@ -301,7 +301,7 @@ module _ {sheet : List ℕ} {count : ℕ} {ps : List ℤ} {words₀ facts₀ wor
             ap (λ (t : Bool). loops_in (take n all_facts) ++ cond t [] (fact ∷ within_ceiling (drop (suc n) all_facts))) (sym test-is ∙ under)
             ∙ sym (append_assoc (loops_in (take n all_facts)) (fact ∷ []) (within_ceiling (drop (suc n) all_facts)))
 
-        module _ {number : ℕ} (number_is : number ≡ loop_at rows n) {barred : Barred} (barred_is : barred ≡ barred_by os) {words2 facts2 : List ℕ}
+        module _ {number : ℕ} (number_read : number ≡ loop_at rows n) {barred : Barred} (barred_is : barred ≡ barred_by os) {words2 facts2 : List ℕ}
             (words_put : words2 ≡ cond over words (paste words (difference_from number) (loop_words (wide_form forms.difference) forms.size here.depth a.starts pushes) difference_width))
             (facts_put : facts2 ≡ cond over facts (paste facts (fact_from number) (fact_numbers (fact_within (wide_form forms.difference) forms.size forms.asked barred a)) fact_width))
           where
@@ -322,7 +322,7 @@ module _ {sheet : List ℕ} {count : ℕ} {ps : List ℤ} {words₀ facts₀ wor
             stored = loops_in (take n all_facts)
 
             place_is : (number ≡ length stored) × (number < loop_limit)
-            place_is = let h = number_is sheet ps n there held l found.1 in (number_is ∙ h.0, omega (arith, number_is, h.1))
+            place_is = let h = number_is sheet ps n there held l found.1 in (number_read ∙ h.0, omega (arith, number_read, h.1))
 
             one-more-stored : stored ++ (fact ∷ []) ≡ loops_in (take (n + 1) all_facts)
             unfolding loops_in

@@ -1,5 +1,6 @@
 // What the parameters make of each loop of a sheet: the walk over the records.
 #![tactic(auto)]
+
 mod forms;
 
 ghost use Rattle.std.specs.Prelude.{◌≡◌, cond, ◌<◌, ◌^◌, ltb, length};
