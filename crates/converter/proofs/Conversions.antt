@@ -1,12 +1,11 @@
 -- The promises of the converters: the new sheet or a refusal, in document 02's order, and what it means.
 use mathlib.Core.Path.{◌≡◌, refl, sym, ap, subst, ◌∙◌}
 use mathlib.Core.List.{List, ◌++◌}
-use mathlib.Core.Bool.{Bool, true, false}
+use mathlib.Core.Bool.{Bool}
 use Prim.Native.Nat.{ℕ, ◌-◌, ◌≤◌, ◌<◌}
 use native.Mathlib.Omega.{arith}
 use lib.ListN.{length, take, drop, length-append}
 use lib.Seq.{take_at}
-use Rattle.meaning.specs.Limits.{sheet_length_limit}
 use Rattle.meaning.specs.Record.{Record, sheet_bytes}
 use Rattle.meaning.specs.Reader.{Result, ok, refused, and_then, read}
 use Rattle.meaning.specs.Writer.{Written, store, fit_sheet}

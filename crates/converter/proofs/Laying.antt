@@ -3,7 +3,7 @@ use mathlib.Core.Path.{◌≡◌, refl, sym, ap, ◌∙◌, subst}
 use mathlib.Core.List.{List, [], ◌∷◌, ◌++◌, map, map-append, append-nil}
 use mathlib.Core.Bool.{Bool, true, false, not}
 use mathlib.Core.Option.{Option, none, some}
-use Prim.Native.Nat.{ℕ, suc, ◌+◌, ◌*◌, ◌<◌, ◌≤◌}
+use Prim.Native.Nat.{ℕ, ◌+◌, ◌*◌, ◌<◌, ◌≤◌}
 use native.Mathlib.Numerals.{add-one}
 use native.Mathlib.Omega.{arith}
 use lib.ListN.{length, get_or, take, drop, length-map, drop_of_length-le}
@@ -14,7 +14,7 @@ use Rattle.meaning.specs.Reader.{Result, ok, refused, require, and_then, Head, h
 use Rattle.meaning.specs.Converter.{change_loop, add_skips, drop_skips}
 use Rattle.meaning.proofs.Number.{Bytes, bytes_take, bytes_drop}
 use Rattle.meaning.proofs.RecordReader.{StandsAt}
-use Rattle.meaning.proofs.RecordBytes.{body_bytes-decode_record, record_length-bound, sheet_length-bound}
+use Rattle.meaning.proofs.RecordBytes.{body_bytes-decode_record, sheet_length-bound}
 use Rattle.encoding.specs.Append.{Appended}
 use Rattle.encoding.proofs.Appending.{nothing, same_bytes, keeps-length}
 use Rattle.encoding.proofs.Appending as Append

@@ -1,5 +1,6 @@
 // The converters of document 02, C-12: every kind 2 into kind 6, and every kind 6 into kind 2.
 #![tactic(auto)]
+
 mod record;
 
 ghost use Rattle.std.specs.Prelude.{◌≡◌, List, ◌++◌, true, false, ℕ, length, take, drop};

@@ -1,12 +1,12 @@
 -- What the widths of the code's fields say of the meaning's numbers: every number has a pattern of its width, every form its factors.
-use mathlib.Core.Path.{◌≡◌, sym, subst, ◌∙◌}
-use mathlib.Core.List.{List, [], ◌∷◌, map}
+use mathlib.Core.Path.{◌≡◌, sym, subst}
+use mathlib.Core.List.{List, [], ◌∷◌}
 use Prim.Native.Nat.{◌^◌, ◌≤◌, ◌<◌}
 use native.Mathlib.Omega.{arith}
 use lib.IntN.{ℤ}
 use lib.Signed.{mag}
 use lib.Dec.{T, lt→ltb}
-use lib.ListN.{length, drop, length-map, drop_of_length-le}
+use lib.ListN.{length, drop, drop_of_length-le}
 use mir.Syntax.{w8}
 use mir.Val.{Val}
 use denote.Shadow.{shadow}
@@ -40,7 +40,7 @@ pub record RecordFits (r : Record) : Type 0 where
   pub most_fits : r.work.most < 2 ^ 16
   pub loop_fits : LoopFits r.looping
 
-factors-fit : (xs : List ℤ) (us : List Val) → shadow (each ℤ (SInt w8).own_val (map (λ (x : ℤ). x) xs) us) → T (factors_fit xs)
+factors-fit : (xs : List ℤ) (us : List Val) → shadow (each ℤ (SInt w8).own_val xs us) → T (factors_fit xs)
 unfolding factors_fit has_pattern
 factors-fit [] us h = tt
 factors-fit (x ∷ xs) [] h = absurd h
@@ -51,7 +51,7 @@ unfolding all_zero has_pattern
 form-fits f vs h =
     let index = h.1.1.1.0 in
     let parameter = h.1.1.1.1.0 in
-    let three : length f.index ≡ index_factors = sym (length-map f.index (λ (x : ℤ). x)) ∙ index.1.0.1 in
+    let three : length f.index ≡ index_factors = index.1.0.1 in
     let few : length f.index ≤ index_factors = omega arith in
     let none : drop index_factors f.index ≡ [] = drop_of_length-le f.index few in
     record {
@@ -59,7 +59,7 @@ form-fits f vs h =
       constant_fits = lt→ltb (mag f.constant) constant_half h.1.1.0.1;
       index_count = three;
       index_fit = factors-fit f.index index.0 index.1.1;
-      parameter_count = sym (length-map f.parameter (λ (x : ℤ). x)) ∙ parameter.1.0.1;
+      parameter_count = parameter.1.0.1;
       parameter_fit = factors-fit f.parameter parameter.0 parameter.1.1;
     }
 

@@ -24,6 +24,9 @@ use Rattle.records.specs.View.{blank_record, raw_record_of, record_in}
 use Rattle.sheet.specs.Answers.{counted, with_blanks}
 use Rattle.sheet.specs.Sheets.{records_in}
 use Rattle.writer.specs.Writing.{measured, SheetLaid}
+use Rattle.writer.specs.Answers.{write_result}
+use Rattle.writer.specs.declared.WriteAnswer.{WriteAnswer}
+use Rattle.writer.specs.declared.WriteAnswer.TheVariants as answers
 
 -- ---- a measured result
 
@@ -36,6 +39,11 @@ measured-ok : (x : Result (List M.Record)) {n : ℕ} → ok n ≡ measured x →
 unfolding measured
 measured-ok (ok rs) e = (rs, refl, ok-injective e)
 measured-ok (refused m p) e = refused-is-not-ok (sym e)
+
+-- an answer that is no length is a refusal
+pub refused-answer : (a : WriteAnswer) → ((n : ℕ) → a ≡ answers.Length n → ⊥) → (number : ℕ) × (place : ℕ) × (write_result a ≡ refused number place)
+refused-answer (answers.Length n) never = absurd (never n refl)
+refused-answer (answers.Refused r) never = (r.number, r.offset, refl)
 
 -- ---- the writer
 

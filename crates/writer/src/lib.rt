@@ -1,5 +1,6 @@
 // The writer: the sheet that holds given records, or refusal 4, 2, 3, 5 or 9 with its place.
 #![tactic(auto)]
+
 mod body;
 
 ghost use Rattle.std.specs.Prelude.{◌≡◌, List, [], ◌++◌, map, ◌&&◌, ℕ, ◌+◌, ◌-◌, ◌≤◌, eqb, length, take, replicate};

@@ -1,0 +1,11 @@
+-- The two bytes of the constant and the byte of each factor are their patterns, in the order of the sheet.
+use Rattle.writer.proofs.Fits.{form-fits}
+use Rattle.writer.proofs.Bodies.{form-bytes}
+use Rattle.writer.proofs.body.form_bytes.Goals as goal
+
+pub returns : goal.returns
+returns c =
+    form-bytes (form-fits c.args.form _ c.well_formed.0) c.pattern16.ensures c.two_bytes-constant.ensures
+    c.pattern8-i1.ensures c.pattern8-i2.ensures c.pattern8-i3.ensures
+    c.pattern8-p1.ensures c.pattern8-p2.ensures
+    c.pattern8-p3.ensures c.pattern8-p4.ensures
