@@ -99,7 +99,7 @@ module _ {count : ℕ} {rows differences facts before limits : List ℕ} {n : �
         {limits2 : List ℕ} → limits2 ≡ paste (paste limits (limit_from number) (stored ∷ []) 1) 0 (max (get_or limits 0 0) stored ∷ []) 1
         → Limited count rows differences facts before limits2 (n + 1)
     unfolding limits_stored
-    limited-next one {number} {stored} number_is stored_is {limits2} put = record {
+    limited-next one {number} {stored} number_read stored_is {limits2} put = record {
       so_far = omega arith;
       stored_so_far = λ sheet ps s.
           let rs : List Record = records_of sheet in
@@ -124,9 +124,9 @@ module _ {count : ℕ} {rows differences facts before limits : List ℕ} {n : �
           let place_is = number_is sheet ps n there s.sheet_is.rows_are l found.1 in
           let passed : List LoopPlan = loops_in (take n (plans sheet ps s)) in
           let at : number ≡ length (numbers_stored passed) =
-          number_is ∙ place_is.0 ∙ sym (loops-before-plans ps rs n) ∙ sym (limits-size passed) in
+          number_read ∙ place_is.0 ∙ sym (loops-before-plans ps rs n) ∙ sym (limits-size passed) in
           put ∙ ap (λ (v : ℕ). paste (paste limits (limit_from number) (v ∷ []) 1) 0 (max (get_or limits 0 0) v ∷ []) 1) value
-          ∙ limits-next before (numbers_stored passed) number (number_of plan.class plan.height) at (omega (arith, number_is, place_is.1)) (g.stored_so_far sheet ps s)
+          ∙ limits-next before (numbers_stored passed) number (number_of plan.class plan.height) at (omega (arith, number_read, place_is.1)) (g.stored_so_far sheet ps s)
           ∙ ap (λ (numbers : List ℕ). stored_in before (with_largest numbers))
           (limits-more passed plan ∙ ap numbers_stored (sym (one_more sheet ps s (some plan) planned ∙ (unfold loops_in in refl))));
     }

@@ -10,7 +10,7 @@ use lib.Dec.{ltb}
 use lib.IntN.{ℤ}
 use Rattle.meaning.specs.Record.{Record}
 use Rattle.meaning.specs.Reader.{Result, and_then, ok, read, refused}
-use Rattle.meaning.specs.Answer.{accepted_by, check_ceilings, sheet_reports, answer}
+use Rattle.meaning.specs.Answer.{accepted_by, check_ceilings, sheet_reports}
 use Rattle.meaning.specs.Report.{first_over_ceiling}
 use Rattle.meaning.proofs.Logic.{refused-is-not-ok}
 use Rattle.sheet.specs.declared.reader.ReadAnswer.{ReadAnswer}

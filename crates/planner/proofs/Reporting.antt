@@ -4,11 +4,7 @@ use mathlib.Core.Option.{Option}
 use mathlib.Core.Bool.{Bool, cond, false, true}
 use mathlib.Core.Path.{ap, ap₂, refl, sym, ◌∙◌, ◌≡◌}
 use Prim.Native.Nat.{suc, zero, ℕ}
-use mathlib.Core.Logic.{⊎_elim}
-use native.Mathlib.Omega.{arith}
 use borrow.Author.Tests.{eq-eqb, ne_eqb}
-use types.Run.{OneOf}
-use denote.Enum.Declared.{tag_of}
 use Rattle.meaning.specs.Closed.{LoopClass, closed_class, ranked_class}
 use Rattle.meaning.specs.Reason.{Reason}
 use Rattle.layout.specs.Loops.{ceiling_at, limit_at, ranked_at}
@@ -18,7 +14,6 @@ use Rattle.planner.specs.Reasons.{reason_at}
 use Rattle.planner.specs.Reports.{class_in, reason_by, report_at}
 use Rattle.planner.specs.declared.report.Class.{Class}
 use Rattle.planner.specs.declared.report.Class.TheVariants as class
-use Rattle.planner.specs.contracts.report.Class.{the_type}
 
 module _ (limit : ℕ) (h : limit ≡ 0 → ⊥) where
   pub summed_by : (ranked : Bool) → cond ranked ranked_class closed_class ≡ class_by limit ranked
@@ -30,9 +25,9 @@ module _ (limit : ℕ) (h : limit ≡ 0 → ⊥) where
       go (suc n) h false = unfold class_by in refl
 
 -- a loop that is not closed keeps the reason that is found
-pub reason_kept : (class : Class) → OneOf (1 ∷ 2 ∷ []) (tag_of the_type class) → (found : Option Reason) → found ≡ reason_by (class_in class) found
+pub reason_kept : (c : Class) → (c ≡ class.Closed → ⊥) → (found : Option Reason) → found ≡ reason_by (class_in c) found
 unfolding reason_by
-reason_kept class.Closed k found = absurd (⊎_elim (λ p. omega arith) (λ p. omega arith) k)
+reason_kept class.Closed k found = absurd (k refl)
 reason_kept class.Ranked k found = refl
 reason_kept class.Walked k found = refl
 

@@ -143,11 +143,11 @@ module _ (rows differences facts : List ℕ) (depth k : ℕ) {role : ℕ} (role_
     unfolding loop_tests_at role_number first_failing
     first = rw (eq-eqb (role_at rows k) 1 (sym role_is ∙ one), enough_is, of_k_is) refl
 
-    pub few-fails : not enough ≡ true → {place : ℕ} → place ≡ offset_at rows k → first_failing (loop_tests_at rows differences facts depth k) ≡ some (too_few_trips place)
+    pub few-fails : enough ≡ false → {place : ℕ} → place ≡ offset_at rows k → first_failing (loop_tests_at rows differences facts depth k) ≡ some (too_few_trips place)
     few-fails e p = first ∙ rw e (ap (λ (n : ℕ). some (too_few_trips n)) (sym p))
 
     -- where it makes enough trips, the loops around it are left
-    pub left-around : not enough ≡ false → {last : ℕ} → last ≡ min (depth_at rows k) index_factors →
+    pub left-around : enough ≡ true → {last : ℕ} → last ≡ min (depth_at rows k) index_factors →
         first_failing (loop_tests_at rows differences facts depth k) ≡ first_failing (tests_from (uneven_test_at rows differences k) depth (last - depth))
     left-around e l = first ∙ rw e (ap (λ (n : ℕ). first_failing (tests_from (uneven_test_at rows differences k) depth (n - depth))) (sym l))
 

@@ -1,5 +1,6 @@
 // The plan of a sheet at given parameters: its records' rows, and what the parameters make of its loops; refusals 1 to 6.
 #![tactic(auto)]
+
 mod closing;
 pub mod reason;
 pub mod report;
