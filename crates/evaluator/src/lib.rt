@@ -1,5 +1,6 @@
 // One stage in place, on a plan's arrays: from the start of one visit to the start of the next, or to the sheet's end.
 #![tactic(auto)]
+
 mod evaluate;
 
 ghost use Rattle.std.specs.Prelude.{◌≡◌, min};
