@@ -40,7 +40,6 @@ use Rattle.stages.proofs.PlanLaws.{KnownPlan}
 use Rattle.stages.proofs.Places.{Placed, placed-stages}
 use Rattle.stages.proofs.Standing.{Regular, passage_of}
 use Rattle.stages.proofs.InStep.{stage-in-step}
-use Rattle.meaning.specs.Visits.{visits}
 
 module _ (sheet : List ℕ) (ps : List ℤ) (rs : List Record) (small : SmallParameters ps) (e : accepted sheet ps ≡ ok rs) where
   abbrev model : ℕ → State

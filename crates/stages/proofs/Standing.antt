@@ -34,7 +34,6 @@ use Rattle.stages.proofs.Steps.{Fits, open_loops, standing}
 use Rattle.stages.proofs.Places.{Framed, Placed, PlacedAt, Stands, opens_of}
 use Rattle.stages.proofs.PlanLaws.{KnownPlan, RowIs, loops-count, row_is}
 use Rattle.stages.proofs.Affine.{enclosing_of}
-use Rattle.meaning.specs.Visits.{visits}
 
 -- ---- counts of frames
 

@@ -1,5 +1,6 @@
 // The stage of document 01: from the sheet, the parameters and a state by value to the next state.
 #![tactic(auto)]
+
 ghost use Rattle.std.specs.Prelude.{◌≡◌, List};
 ghost use Rattle.meaning.specs.Record.{Record};
 ghost use Rattle.meaning.specs.Reader.{ok};
