@@ -1,5 +1,6 @@
 // Figures: the library call.
 #![tactic(auto)]
+
 mod repeat;
 
 ghost use Rattle.std.specs.Prelude.{◌≡◌};

@@ -1,0 +1,64 @@
+-- Refusal 7; the refusal of the plan; or what the sums say of the state in which the stages stop. Demand 3 follows from the answer.
+use mathlib.Core.Path.{sym}
+use mathlib.Core.Logic.{inl, inr, ⊎_elim}
+use native.Mathlib.Omega.{arith}
+use Rattle.meaning.proofs.Answers.{BudgetInRange, BudgetOutOfRange, answer-out-of-range, answer-refused}
+use Rattle.meaning.proofs.LongerSheets.{answered-alike}
+use Rattle.planner.proofs.Planned.{planned-count, planned-refused}
+use Rattle.planner.proofs.Parameters.{small-parameters}
+use Rattle.figures.specs.Demand.{Answered}
+use Rattle.figures.proofs.Answering.{stopped-answer, planned}
+use Rattle.figures.proofs.Demands.{only-visits-fall, promised}
+use Rattle.figures.proofs.cycles.Goals as goal
+
+pub returns-then-budget-eq0 : goal.returns-then-budget-eq0
+unfolding Answered
+returns-then-budget-eq0 c =
+    let a = c.args in
+    let out : BudgetOutOfRange a.budget = ⊎_elim inl (λ w. inr w.1) c.then-budget-eq0.either in
+    let answers = sym (answer-out-of-range a.sheet.now a.parameters a.budget out) in
+    record {
+      answers = answers;
+      demand3 = tt;
+      before = answered-alike a.sheet.now a.parameters a.budget _ answers;
+      fewer = only-visits-fall a.sheet.now a.parameters a.budget answers;
+    }
+
+pub repeat_stages-sums-requires : goal.repeat_stages-sums-requires
+repeat_stages-sums-requires c =
+    let count = planned-count c.args.sheet.now c.args.parameters c.plan-planned.result c.plan-planned.ensures.answer c.in-Count.is in
+    planned c.args.sheet.now c.args.parameters (small-parameters c.args.parameters _ c.well_formed.1.0) count.0 count.1
+    c.plan-planned.ensures.rows c.plan-planned.ensures.differences c.plan-planned.ensures.facts c.plan-planned.ensures.limits count.2
+
+pub returns-in-Count : goal.returns-in-Count
+returns-in-Count c =
+    let sheet = c.args.sheet.now in
+    let parameters = c.args.parameters in
+    let small = small-parameters parameters _ c.well_formed.1.0 in
+    let range : BudgetInRange c.args.budget = record { positive = omega (arith, c.if-budget-eq0.false); within = c.if-budget-gt-MAX_BUDGET.false } in
+    let count = planned-count sheet parameters c.plan-planned.result c.plan-planned.ensures.answer c.in-Count.is in
+    let stopped = stopped-answer sheet parameters small count.0 count.1
+    c.plan-planned.ensures.rows c.plan-planned.ensures.differences c.plan-planned.ensures.facts c.plan-planned.ensures.limits count.2
+    c.args.budget range c.repeat_stages-sums.ensures in
+    let p = promised sheet parameters small c.args.budget c.figures_of.ensures stopped in
+    record {
+      answers = p.0;
+      demand3 = p.1;
+      before = answered-alike sheet parameters c.args.budget _ p.0;
+      fewer = only-visits-fall sheet parameters c.args.budget p.0;
+    }
+
+pub returns-in-Refused : goal.returns-in-Refused
+unfolding Answered
+returns-in-Refused c =
+    let sheet = c.args.sheet.now in
+    let parameters = c.args.parameters in
+    let range : BudgetInRange c.args.budget = record { positive = omega (arith, c.if-budget-eq0.false); within = c.if-budget-gt-MAX_BUDGET.false } in
+    let down = planned-refused sheet parameters c.plan-planned.result c.plan-planned.ensures.answer c.in-Refused.is in
+    let answers = sym (answer-refused sheet parameters c.args.budget _ _ range down) in
+    record {
+      answers = answers;
+      demand3 = tt;
+      before = answered-alike sheet parameters c.args.budget _ answers;
+      fewer = only-visits-fall sheet parameters c.args.budget answers;
+    }
