@@ -11,6 +11,11 @@ CASES = 2000
 # What a target needs is looked for before anything is proved.
 need = @packaging/need.sh $@
 
+# The static library and the program, proved and built.
+library = cd crates/exports_c && rt lib
+program = cd crates/bound && rt run <stdin >/dev/null
+archive = crates/exports_c/out/libexports_c.a
+
 help:
 	@cat packaging/targets.txt
 
@@ -23,12 +28,13 @@ test:
 
 check:
 	$(need) rt
-	rt check
+	rt all check
 
 dist:
 	$(need) rt cc python3
-	rt staticlib exports
-	rt check bound
+	$(library)
+	$(program)
+	mkdir -p target
 	packaging/dist.sh dist
 
 run: dist
@@ -53,14 +59,15 @@ command-test: dist
 
 stack:
 	$(need) rt objdump python3
-	rt staticlib exports
-	python3 packaging/stack.py target/staticlib/libexports.a include/pumdalin.h
+	$(library)
+	python3 packaging/stack.py $(archive) include/pumdalin.h
 
 bench:
 	$(need) rt cc rustc valgrind
-	rt staticlib exports
+	$(library)
+	mkdir -p target
 	rustc --edition 2021 -C opt-level=3 -C codegen-units=1 -C panic=abort bench/main.rs \
-		-L target/staticlib -l static=exports -o target/bench
+		-L $(dir $(archive)) -l static=exports_c -o target/bench
 	target/bench crates/vectors/data/figures
 
 reference:
@@ -84,10 +91,11 @@ cases:
 
 cross-check:
 	$(need) rt cc python3
-	rt staticlib exports
-	rt check bound
-	cc -std=c99 -Wall -Wextra -O2 -Iinclude reference/answers.c target/staticlib/libexports.a -o target/answers
-	python3 reference/agreement.py target/answers --program target/bin/bound --listings examples/listings \
+	$(library)
+	$(program)
+	mkdir -p target
+	cc -std=c99 -Wall -Wextra -O2 -Iinclude reference/answers.c $(archive) -o target/answers
+	python3 reference/agreement.py target/answers --program crates/bound/out/bound --listings examples/listings \
 		--cases $(CASES) $(if $(SEED),--seed $(SEED))
 
 picture:
@@ -96,8 +104,8 @@ picture:
 
 format:
 	$(need) rt
-	rt fmt
+	for crate in crates/*/; do (cd "$$crate" && rt fmt) || exit 1; done
 
 clean:
-	rm -rf target dist
+	rm -rf target dist crates/*/out
 	find command reference -name __pycache__ -type d -prune -exec rm -rf {} +

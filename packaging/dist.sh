@@ -1,12 +1,12 @@
 #!/bin/sh
-# dist.sh FOLDER: lays the package out in a folder that may be moved, from what was proved and built in target/.
+# dist.sh FOLDER: lays the package out in a folder that may be moved, from what was proved and built in crates/*/out.
 set -eu
 umask 022
 package=${1:?a folder}
 version=$(cat VERSION)
 library=libpumdalin.so
 compatible=$library.${version%%.*}
-archive=target/staticlib/libexports.a
+archive=crates/exports_c/out/libexports_c.a
 
 # A file with the version put in.
 with_version() {
@@ -32,7 +32,7 @@ pkg_config pumdalin-static static '${libdir}/libpumdalin.a'
 with_version packaging/pumdalin-config.cmake.in lib/cmake/pumdalin/pumdalin-config.cmake
 with_version packaging/pumdalin-config-version.cmake.in lib/cmake/pumdalin/pumdalin-config-version.cmake
 
-install -D -m 755 -t "$package/bin" target/bin/bound
+install -D -m 755 -t "$package/bin" crates/bound/out/bound
 install -D -m 755 command/launcher "$package/bin/pumdalin"
 (cd command && find pumdalin -name '*.py') | while read -r module; do
     install -D -m 644 "command/$module" "$package/share/pumdalin/$module"

@@ -19,14 +19,14 @@ from writer_cases import (
 LONGEST_INPUT = 100
 
 # Entries that come often get a name; so does the form with nothing in it.
-NO_FORM = "noForm"
+NO_FORM = "no_form"
 ENTRY_NAMES = {
-    WORK_ENTRY: "aWork",
-    LOOP_ENTRY: "aLoop",
-    END_ENTRY: "anEnd",
-    CHOICE_ENTRY: "aChoice",
-    NEXT_ENTRY: "aNextArm",
-    SKIP_ENTRY: "aSkipLoop",
+    WORK_ENTRY: "a_work",
+    LOOP_ENTRY: "a_loop",
+    END_ENTRY: "an_end",
+    CHOICE_ENTRY: "a_choice",
+    NEXT_ENTRY: "a_next_arm",
+    SKIP_ENTRY: "a_skip_loop",
 }
 
 

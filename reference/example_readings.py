@@ -131,7 +131,7 @@ def known_answers_file() -> str:
         given += [str(figure) for figure in case.answer]
         lines += [f"    -- {case.tells}", f"    {'× ' if number else ''}{term('returns', *given)}"]
         # each sheet has two equations in that theorem: its answer, and its loop reports
-        proofs.append(f"returns _ _ _ _ _ _ (known-sheets .{2 * number})")
+        proofs.append(f"returns _ _ _ _ _ _ known-sheets.{2 * number}")
     lines.append("known-answers = (" + ", ".join(proofs) + ")")
     comments = ["What the library call returns for the ten sheets with known figures."]
     return antt.file_text("KnownAnswers.antt", comments, ["\n".join(lines) + "\n"])

@@ -301,7 +301,7 @@ class Examples(unittest.TestCase):
             readings_text = readings_file(GIVEN, 100, 20)
         for text in (readings_text, telling_file(20), known_file(), states_file(), calls_file(20), ranges_file(20)):
             proofs = text.count("(refl") + text.count(", refl") + text.count("= refl")
-            imported = text.count("_≡_, refl")
+            imported = text.count("◌≡◌, refl")
             self.assertEqual(proofs - imported, text.count(" ≡ "))
             self.assertEqual(text.count("("), text.count(")"))
 

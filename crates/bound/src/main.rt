@@ -1,14 +1,33 @@
 // The program `bound`: reads four parameters, a budget and a sheet, and prints the figures and the lines of each loop, or the refusal.
 #![tactic(auto)]
-use libc::{STDIN_FILENO, STDOUT_FILENO};
+
+ghost use Rattle.std.specs.Prelude.{◌≤◌, length, IfOk};
+
+use std::io;
+use std::io::{Read, Write};
 use text::{TEXT_LENGTH, blank_input, program_text};
 
+// Reads until the buffer is full or the input ends, and says how many bytes came.
+fn read_full<R: Read>(reader: &mut R, buffer: &mut [u8]) -> io::Result<usize>
+    ensures { IfOk result (λ n. n ≤ length buffer.new) }
+{
+    let mut got: usize = 0;
+    while got < buffer.len() {
+        let count = reader.read(&mut buffer[got..])?;
+        if count == 0 {
+            return Ok(got);
+        }
+        got += count;
+    }
+    Ok(got)
+}
+
 // No contract can speak of what is read or written, so there is none here; that of `program_text` says what the text is. Of a
-// longer input only what `blank_input` has room for matters.
-fn main() {
+// longer input only what `blank_input` has room for matters. A read or a write that fails ends the program with its error.
+fn main(rt: HostRuntime) -> io::Result<()> {
     let mut input = blank_input();
     let mut buffer: [u8; TEXT_LENGTH] = [0; TEXT_LENGTH];
-    let got = io::read_full(STDIN_FILENO, &mut input);
+    let got = read_full(&mut rt.stdin(), &mut input)?;
     let length = program_text(&input[..got], &mut buffer);
-    io::write_all(STDOUT_FILENO, &buffer[..length]);
+    rt.stdout().write_all(&buffer[..length])
 }

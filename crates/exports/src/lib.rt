@@ -1,5 +1,6 @@
-// The calls that are exported to C.
+// The calls that crate exports_c exports to C.
 #![tactic(auto)]
+
 mod area;
 mod lent_sheet;
 mod lent_text;
@@ -32,8 +33,7 @@ use sweep::values::ParameterRange;
 use text::{TEXT_LENGTH, Text, program_text};
 
 // The C call: what the library call answers, in the area that the caller lends.
-#[unsafe(no_mangle)]
-pub extern "C" fn pumdalin_figures(
+pub fn pumdalin_figures(
     sheet: &[u8],
     p1: i16,
     p2: i16,
@@ -64,8 +64,7 @@ pub extern "C" fn pumdalin_figures(
 }
 
 // The C call over a range of one parameter: what the library call over a range answers, in the area that the caller lends.
-#[unsafe(no_mangle)]
-pub extern "C" fn pumdalin_range(
+pub fn pumdalin_range(
     sheet: &[u8],
     p1: i16,
     p2: i16,
@@ -102,8 +101,7 @@ pub extern "C" fn pumdalin_range(
 }
 
 // The text call: what `bound` prints for this input, in the buffer that the caller lends, and its length in the area.
-#[unsafe(no_mangle)]
-pub extern "C" fn pumdalin_text(input: &[u8], text: &mut [u8], answer: &mut [u8]) -> u32
+pub fn pumdalin_text(input: &[u8], text: &mut [u8], answer: &mut [u8]) -> u32
     ensures number { result ≡ (text_call input.now text.old answer.old).number }
     ensures text { text.new ≡ (text_call input.now text.old answer.old).buffer }
     ensures area { answer.new ≡ (text_call input.now text.old answer.old).area }
@@ -121,8 +119,7 @@ pub extern "C" fn pumdalin_text(input: &[u8], text: &mut [u8], answer: &mut [u8]
 }
 
 // The sheet with every kind 2 turned into kind 6, in the buffer that the caller lends, and its length in the area.
-#[unsafe(no_mangle)]
-pub extern "C" fn pumdalin_with_skips(sheet: &[u8], target: &mut [u8], answer: &mut [u8]) -> u32
+pub fn pumdalin_with_skips(sheet: &[u8], target: &mut [u8], answer: &mut [u8]) -> u32
     ensures number { result ≡ (with_skips_call sheet.now target.old answer.old).number }
     ensures sheet { target.new ≡ (with_skips_call sheet.now target.old answer.old).buffer }
     ensures area { answer.new ≡ (with_skips_call sheet.now target.old answer.old).area }
@@ -135,8 +132,7 @@ pub extern "C" fn pumdalin_with_skips(sheet: &[u8], target: &mut [u8], answer: &
 }
 
 // The sheet with every kind 6 turned into kind 2, in the buffer that the caller lends, and its length in the area.
-#[unsafe(no_mangle)]
-pub extern "C" fn pumdalin_without_skips(sheet: &[u8], target: &mut [u8], answer: &mut [u8]) -> u32
+pub fn pumdalin_without_skips(sheet: &[u8], target: &mut [u8], answer: &mut [u8]) -> u32
     ensures number { result ≡ (without_skips_call sheet.now target.old answer.old).number }
     ensures sheet { target.new ≡ (without_skips_call sheet.now target.old answer.old).buffer }
     ensures area { answer.new ≡ (without_skips_call sheet.now target.old answer.old).area }

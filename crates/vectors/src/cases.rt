@@ -36,7 +36,7 @@ const MOST_ENTRIES: usize = 150;
 pub(crate) const ENTRY: usize = 31;
 
 // What is called, the refusal's number, lengths, and the place, count or length that is expected.
-#[derive(Drop)]
+#[derive(Clone, Copy)]
 pub(crate) struct Case {
     pub which: u8,
     pub number: u8,

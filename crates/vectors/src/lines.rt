@@ -6,7 +6,7 @@ use reasons::reading::read_reason;
 use reasons::{Found, Reason};
 
 // Which reason it is, 0 if there is none, and the offsets of its line; 0 for what it has not.
-#[derive(Drop)]
+#[derive(Clone, Copy)]
 pub(crate) struct StoredReason {
     pub sort: u8,
     pub first: u16,

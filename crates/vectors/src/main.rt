@@ -1,6 +1,7 @@
 // Runs the stored cases of the reader, the writer, the plan, the calls, the stage, the texts, the reasons' lines, the converters and
 // the calls over a range, and says how many there are and how many differ.
 #![tactic(auto)]
+
 mod calls;
 mod cases;
 mod compare;
@@ -17,7 +18,10 @@ use crate::cases::{
     entries_length,
 };
 use crate::compare::agrees;
-use libc::STDOUT_FILENO;
+use std::fs::File;
+use std::io;
+use std::io::{ErrorKind, Read};
+use std::rt::Files;
 use text::TEXT_LENGTH;
 
 // Cases met so far, and how many of them came out otherwise than reckoned.
@@ -41,57 +45,65 @@ fn counted(tally: Tally, which: u8, agrees: bool) -> Tally {
     let mut next = tally;
     match which {
         READER => {
-            next.readings = std::num::wrapping_add_u64(next.readings, 1);
+            next.readings = next.readings.wrapping_add(1);
         }
         WRITER => {
-            next.writings = std::num::wrapping_add_u64(next.writings, 1);
+            next.writings = next.writings.wrapping_add(1);
         }
         PLAN => {
-            next.plans = std::num::wrapping_add_u64(next.plans, 1);
+            next.plans = next.plans.wrapping_add(1);
         }
         STAGES => {
-            next.stagings = std::num::wrapping_add_u64(next.stagings, 1);
+            next.stagings = next.stagings.wrapping_add(1);
         }
         TEXTS => {
-            next.texts = std::num::wrapping_add_u64(next.texts, 1);
+            next.texts = next.texts.wrapping_add(1);
         }
         LINES => {
-            next.lines = std::num::wrapping_add_u64(next.lines, 1);
+            next.lines = next.lines.wrapping_add(1);
         }
         WITH_SKIPS => {
-            next.conversions = std::num::wrapping_add_u64(next.conversions, 1);
+            next.conversions = next.conversions.wrapping_add(1);
         }
         WITHOUT_SKIPS => {
-            next.conversions = std::num::wrapping_add_u64(next.conversions, 1);
+            next.conversions = next.conversions.wrapping_add(1);
         }
         RANGES => {
-            next.ranges = std::num::wrapping_add_u64(next.ranges, 1);
+            next.ranges = next.ranges.wrapping_add(1);
         }
         _ => {
-            next.calls = std::num::wrapping_add_u64(next.calls, 1);
+            next.calls = next.calls.wrapping_add(1);
         }
     }
     if !agrees {
-        next.differing = std::num::wrapping_add_u64(next.differing, 1);
+        next.differing = next.differing.wrapping_add(1);
     }
     next
 }
 
 // The next bytes of the file, as many as asked for; whether they were there.
-fn filled(fd: i32, space: &mut [u8], length: usize) -> bool {
+fn filled<F: Read>(file: &mut F, space: &mut [u8], length: usize) -> io::Result<bool> {
     if space.len() < length {
-        return false;
+        return Ok(false);
     }
-    io::read_full(fd, &mut space[..length]) == length
+    match file.read_exact(&mut space[..length]) {
+        Ok(()) => Ok(true),
+        Err(e) => {
+            if e.kind() == ErrorKind::UnexpectedEof {
+                return Ok(false);
+            }
+            Err(e)
+        }
+    }
 }
 
 // The next case of the file, or no more. What follows a sheet has the room of the longest text.
-fn run_case(fd: i32, tally: Tally) -> Tally {
+fn run_case<F: Read>(file: &mut F, tally: Tally) -> io::Result<Tally> {
     let mut last = tally;
     last.more = false;
     let mut header: [u8; 12] = [0; 12];
-    if !filled(fd, &mut header, 12) {
-        return last;
+    if !filled(file, &mut header, 12)? {
+        return Ok(last);
     }
     let case = case_of(&header);
     let which = case.which;
@@ -99,47 +111,45 @@ fn run_case(fd: i32, tally: Tally) -> Tally {
     let entries_length = entries_length(case);
     let mut sheet: [u8; 4096] = [0; 4096];
     let mut entries: [u8; TEXT_LENGTH] = [0; TEXT_LENGTH];
-    if !filled(fd, &mut sheet, length) || !filled(fd, &mut entries, entries_length) {
-        return counted(last, which, false);
+    if !filled(file, &mut sheet, length)? || !filled(file, &mut entries, entries_length)? {
+        return Ok(counted(last, which, false));
     }
-    counted(tally, which, agrees(case, &sheet, &entries))
+    Ok(counted(tally, which, agrees(case, &sheet, &entries)))
 }
 
 // Every case of the file after those of the tally; no file has more than a million.
-fn run_all(fd: i32, before: Tally) -> Tally {
+fn run_all<F: Read>(file: &mut F, before: Tally) -> io::Result<Tally> {
     let mut tally = before;
     tally.more = true;
     let mut turns: usize = 1000000;
     while 0 < turns {
-        let next = run_case(fd, tally);
+        let next = run_case(file, tally)?;
         tally = next;
         if !tally.more {
-            return tally;
+            return Ok(tally);
         }
         turns -= 1;
     }
-    tally
+    Ok(tally)
 }
 
-fn print_line(text: &[u8], number: u64) {
-    io::write_all(STDOUT_FILENO, text);
-    io::print_decimal(STDOUT_FILENO, number);
-    io::write_all(STDOUT_FILENO, b"\n");
+fn print_line(rt: &impl Print, text: &str, number: u64) -> io::Result<()> {
+    println!(rt; "{text}{number}")
 }
 
 // The cases of a file; one that cannot be opened differs.
-fn run_file(path: &[u8], before: Tally) -> Tally {
-    let fd = os::open_read(path);
-    if fd < 0 {
-        os::fail(path);
-        return counted(before, 0, false);
+fn run_file(rt: &(impl Files + Eprint), path: &str, before: Tally) -> io::Result<Tally> {
+    match File::open(rt, path) {
+        Ok(mut file) => run_all(&mut file, before),
+        Err(e) => {
+            eprintln!(rt; "{path}: {e}")?;
+            Ok(counted(before, 0, false))
+        }
     }
-    let tally = run_all(fd, before);
-    libc::close(fd);
-    tally
 }
 
-fn main() {
+// A read or a write that fails ends the program with its error.
+fn main(rt: HostRuntime) -> io::Result<()> {
     let none = Tally {
         readings: 0,
         writings: 0,
@@ -153,22 +163,22 @@ fn main() {
         differing: 0,
         more: true,
     };
-    let sheets = run_file(b"sheets", none);
-    let loops = run_file(b"loops", sheets);
-    let figures = run_file(b"figures", loops);
-    let stages = run_file(b"stages", figures);
-    let texts = run_file(b"texts", stages);
-    let lines = run_file(b"reasons", texts);
-    let converters = run_file(b"converters", lines);
-    let tally = run_file(b"ranges", converters);
-    print_line(b"sheets read: ", tally.readings);
-    print_line(b"sheets written: ", tally.writings);
-    print_line(b"plans made: ", tally.plans);
-    print_line(b"figures answered: ", tally.calls);
-    print_line(b"sheets gone through stage by stage: ", tally.stagings);
-    print_line(b"texts stored: ", tally.texts);
-    print_line(b"lines read back: ", tally.lines);
-    print_line(b"sheets converted: ", tally.conversions);
-    print_line(b"ranges answered: ", tally.ranges);
-    print_line(b"otherwise than reckoned: ", tally.differing);
+    let sheets = run_file(&rt, "sheets", none)?;
+    let loops = run_file(&rt, "loops", sheets)?;
+    let figures = run_file(&rt, "figures", loops)?;
+    let stages = run_file(&rt, "stages", figures)?;
+    let texts = run_file(&rt, "texts", stages)?;
+    let lines = run_file(&rt, "reasons", texts)?;
+    let converters = run_file(&rt, "converters", lines)?;
+    let tally = run_file(&rt, "ranges", converters)?;
+    print_line(&rt, "sheets read: ", tally.readings)?;
+    print_line(&rt, "sheets written: ", tally.writings)?;
+    print_line(&rt, "plans made: ", tally.plans)?;
+    print_line(&rt, "figures answered: ", tally.calls)?;
+    print_line(&rt, "sheets gone through stage by stage: ", tally.stagings)?;
+    print_line(&rt, "texts stored: ", tally.texts)?;
+    print_line(&rt, "lines read back: ", tally.lines)?;
+    print_line(&rt, "sheets converted: ", tally.conversions)?;
+    print_line(&rt, "ranges answered: ", tally.ranges)?;
+    print_line(&rt, "otherwise than reckoned: ", tally.differing)
 }

@@ -1,0 +1,9 @@
+-- What has come fits the buffer.
+use Rattle.std.proofs.Common.{length, ◌-◌, ◌≤◌}
+use Rattle.bound.proofs.read_full.Given as goal
+
+abbrev pub invariant-loop-got : goal.invariant-loop-got
+invariant-loop-got g l = l.got ≤ length l.buffer
+
+abbrev pub decreases-loop-got : goal.decreases-loop-got
+decreases-loop-got g l = length l.buffer - l.got
