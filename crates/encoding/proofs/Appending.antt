@@ -6,7 +6,7 @@ use native.Mathlib.Nat.{zero-add, add-zero}
 use native.Mathlib.Numerals.{add-one}
 use native.Mathlib.Omega.{arith}
 use lib.ListN.{length, take, drop, set, length-append, length-drop, take-append-drop, drop_of_length-le}
-use lib.Seq.{length-take-le, take_all, take_at, drop_at, take-length, drop-append-add, drop-drop, append_snoc, set_split}
+use lib.Seq.{length-take-le, take_at, drop_at, drop-append-add, drop-drop, append_snoc, set_split}
 use Rattle.encoding.specs.Append.{written, Appended}
 
 -- a copy of the bytes to the part of the buffer from `at` on that is as long as they are

@@ -9,10 +9,10 @@ use native.Mathlib.Omega.{arith}
 use lib.IntN.{ℤ}
 use lib.Dec.{T, leb}
 use Rattle.meaning.specs.Record.{Loop, Record, end_record, next_arm_record}
-use Rattle.meaning.specs.Tree.{Block, Arms, empty, work, loop, choice, arm, tree, records, arms_records, height}
+use Rattle.meaning.specs.Tree.{Block, Arms, empty, work, loop, choice, tree, records, arms_records, height}
 use Rattle.meaning.specs.Time.{Bounds, ◌⊕◌, hull, sum_over, trips, inner_indexes, time, arms_time}
 use Rattle.meaning.specs.Range.{Range}
-use Rattle.meaning.specs.Closed.{walked_class, loop_class, closed, ranked}
+use Rattle.meaning.specs.Closed.{walked_class, loop_class, closed}
 use Rattle.meaning.specs.Visits.{count_over, visited_trips, visits, visits_by, arms_visits}
 use Rattle.meaning.specs.Stage.{Frame, loop_frame, choice_frame, KeptArms, no_arms, State, state, state_keeping, add_arm, indexes_of, ranges_of, keeps_arms}
 use Rattle.meaning.proofs.Logic.{bounds-equal, nil-is-not-cons}

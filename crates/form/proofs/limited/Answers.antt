@@ -1,5 +1,4 @@
 -- A number beyond the limit on either side is 0, any other is itself, as in the definition.
-use borrow.Author.Rules.{rules}
 use mir.Facts.{to_z-of_z}
 use Rattle.form.proofs.Reckoned.{bounded-below, bounded-above, bounded-between}
 use mathlib.Core.Path.{sym, ◌∙◌}

@@ -1,5 +1,4 @@
 -- A factor of 16 bits times a number within 2^46 is within 2^61, and exact.
-use borrow.Author.Rules.{rules}
 use native.Mathlib.Omega.{arith}
 use Rattle.form.proofs.Reckoned.{widened, limited, multiply, result}
 use Rattle.form.proofs.product.Goals as goal

@@ -1,6 +1,5 @@
 -- In decimal: at most 20 digits.
 use Rattle.meaning.specs.Text.{decimal}
-use borrow.Author.Rules.{rules}
 use Rattle.encoding.proofs.decimal.put_decimal.Goals as goal
 
 pub returns : goal.returns

@@ -1,7 +1,6 @@
 -- Within the slice it is the byte there, past its end 0.
 use mathlib.Core.Path.{sym}
 use lib.ListN.{get_or-eq_default}
-use borrow.Author.Rules.{rules}
 use Rattle.encoding.proofs.number.byte_at.Goals as goal
 
 pub returns-else-at-s : goal.returns-else-at-s

@@ -4,7 +4,6 @@ use native.Mathlib.Omega.{arith}
 use Rattle.meaning.specs.Limits.{constant_half}
 use Rattle.meaning.specs.Number.{decode_signed, signed16}
 use Rattle.encoding.proofs.Patterns.{bits16, low, difference-fits, decoded-fits, high}
-use borrow.Author.Rules.{rules}
 use Rattle.encoding.proofs.number.signed16_at.Goals as goal
 
 pub overflow_sub-result : goal.overflow_sub-result

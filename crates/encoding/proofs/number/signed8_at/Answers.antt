@@ -4,7 +4,6 @@ use native.Mathlib.Omega.{arith}
 use Rattle.meaning.specs.Limits.{factor_half}
 use Rattle.meaning.specs.Number.{decode_signed, signed8}
 use Rattle.encoding.proofs.Patterns.{bits8, low, difference-fits, decoded-fits, high}
-use borrow.Author.Rules.{rules}
 use Rattle.encoding.proofs.number.signed8_at.Goals as goal
 
 pub overflow_sub-result : goal.overflow_sub-result

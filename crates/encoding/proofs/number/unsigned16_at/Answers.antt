@@ -1,6 +1,5 @@
 -- Past the end it is 0; else the low byte plus 256 times the high one, which counts as 0 past the end.
 use Rattle.encoding.proofs.Fields.{unsigned16-bytes, unsigned16-past}
-use borrow.Author.Rules.{rules}
 use Rattle.encoding.proofs.number.unsigned16_at.Goals as goal
 
 pub returns-then-s-at : goal.returns-then-s-at

@@ -1,5 +1,4 @@
 -- Past the end it is 0; else the low half plus 2^16 times the high one.
-use borrow.Author.Rules.{rules}
 use Rattle.encoding.proofs.Fields.{past_end, unsigned32-halves}
 use Rattle.encoding.proofs.number.unsigned32_at.Goals as goal
 

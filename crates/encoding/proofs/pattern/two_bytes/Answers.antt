@@ -1,5 +1,4 @@
 -- The quotient of a number of 16 bits by 256 is a byte.
-use borrow.Author.Rules.{rules}
 use native.Mathlib.Omega.{arith}
 use mathlib.Core.Path.{◌≡◌, ap}
 use mathlib.Core.List.{[], ◌∷◌}

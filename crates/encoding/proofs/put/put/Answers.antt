@@ -1,5 +1,4 @@
 -- The copied bytes fit behind the position, and the others stay.
-use borrow.Author.Rules.{rules}
 use Rattle.std.proofs.Common.{arith}
 use Rattle.encoding.proofs.Appending.{copied}
 use Rattle.encoding.proofs.put.put.Goals as goal

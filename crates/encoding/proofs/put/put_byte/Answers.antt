@@ -1,5 +1,4 @@
 -- One byte is stored at the position, and the others stay.
-use borrow.Author.Rules.{rules}
 use Rattle.encoding.proofs.Appending.{stored-byte}
 use Rattle.encoding.proofs.put.put_byte.Goals as goal
 

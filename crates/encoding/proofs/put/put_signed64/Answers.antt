@@ -4,7 +4,6 @@ use Rattle.meaning.specs.Limits.{answer_half}
 use Rattle.meaning.specs.Number.{little_endian}
 use Rattle.encoding.proofs.Appending.{same_bytes}
 use Rattle.encoding.proofs.Patterns.{handed}
-use borrow.Author.Rules.{rules}
 use Rattle.encoding.proofs.put.put_signed64.Goals as goal
 
 pub returns : goal.returns

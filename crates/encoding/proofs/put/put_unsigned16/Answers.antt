@@ -1,5 +1,4 @@
 -- The two bytes of the number are put, so that it ends two bytes after the position.
-use borrow.Author.Rules.{rules}
 use Rattle.meaning.proofs.Number.{length-little_endian}
 use Rattle.encoding.proofs.Appending.{same_bytes, ends-after}
 use Rattle.encoding.proofs.put.put_unsigned16.Goals as goal

@@ -1,5 +1,4 @@
 -- The eight bytes of the number are put, so that it ends eight bytes after the position.
-use borrow.Author.Rules.{rules}
 use Rattle.meaning.proofs.Number.{length-little_endian}
 use Rattle.encoding.proofs.Appending.{same_bytes, ends-after}
 use Rattle.encoding.proofs.put.put_unsigned64.Goals as goal

@@ -4,7 +4,6 @@ use native.Mathlib.Omega.{arith}
 use lib.IntN.{pos, ◌+ℤ◌}
 use lib.ListN.{replicate}
 use mir.Syntax.{w64}
-use borrow.Author.Rules.{rules}
 use Rattle.whole.specs.Integer.{dot}
 use Rattle.meaning.specs.Limits.{parameter_factors}
 use Rattle.form.specs.Forms.{size_limit, bounded, folded}

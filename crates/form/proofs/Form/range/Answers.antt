@@ -1,7 +1,6 @@
 -- Both ends are the constant within the limit plus the smallest sum, once with the ends of each index exchanged, and fit 64 bits.
 use mathlib.Core.Path.{◌∙◌}
 use native.Mathlib.Omega.{arith}
-use borrow.Author.Rules.{rules}
 use Rattle.form.specs.Forms.{wide_form}
 use Rattle.form.proofs.Reckoned.{limited, known, add}
 use Rattle.form.proofs.FormLists.{range-lo, range-hi}

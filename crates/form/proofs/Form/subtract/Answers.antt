@@ -1,6 +1,5 @@
 -- The constants of 16 bits subtract within 64, and the factors one by one.
 use native.Mathlib.Omega.{arith}
-use borrow.Author.Rules.{rules}
 use Rattle.meaning.specs.Form as M
 use Rattle.form.proofs.Reckoned.{widened, subtract}
 use Rattle.form.proofs.Form.subtract.Goals as goal
