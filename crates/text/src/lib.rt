@@ -1,5 +1,6 @@
 // The text that the program `bound` prints.
 #![tactic(auto)]
+
 mod lines;
 mod loop_lines;
 

@@ -1,0 +1,30 @@
+-- A loop's report is put as its lines; a record without a report puts nothing, which is the text of no report.
+use mathlib.Core.Path.{sym, ap, ◌∙◌}
+use native.Mathlib.Omega.{arith}
+use lib.ListN.{length}
+use Rattle.meaning.specs.Program.{loop_lines}
+use Rattle.planner.specs.Reports.{loop_report_in, report_in}
+use Rattle.encoding.proofs.Appending.{nothing, same_bytes}
+use Rattle.text.proofs.LoopLines.{one-report}
+use Rattle.text.proofs.loop_lines.put_record_lines.Goals as goal
+
+pub put_report-requires : goal.put_report-requires
+put_report-requires c =
+    let one = ap length (sym (ap report_in c.in-OfLoop.is) ∙ c.report_of-report.ensures) in
+    omega (arith, one, c.requires)
+
+pub returns-in-OfLoop : goal.returns-in-OfLoop
+returns-in-OfLoop c =
+    let reported = sym (ap report_in c.in-OfLoop.is) ∙ c.report_of-report.ensures in record {
+      appended = same_bytes (one-report (loop_report_in c.in-OfLoop.l) ∙ ap loop_lines reported) c.put_report.ensures.appended;
+      short = omega (arith, ap length reported, c.put_report.ensures.short);
+    }
+
+pub returns-in-Nothing : goal.returns-in-Nothing
+unfolding loop_lines
+returns-in-Nothing c =
+    let none = sym (ap report_in c.in-Nothing.is) ∙ c.report_of-report.ensures in
+    record {
+      appended = same_bytes (ap loop_lines none) (nothing (omega arith));
+      short = omega arith;
+    }
