@@ -83,7 +83,9 @@ pub known-ranges :
     KnownRange (hex "020000000001000100000000000000000000000000010000000200000000010000000100000000000000000000000100000001010001000303")
     zero_parameters 100 (parameter_range 1 (negsuc 1) (pos 4)) (extremes_found 0 (negsuc 1) 10 (pos 4) 14)
 unfolding Range.computes
-known-ranges = known-range _ _ _ _ _ refl
+known-ranges =
+    known-range (hex "020000000001000100000000000000000000000000010000000200000000010000000100000000000000000000000100000001010001000303")
+    zero_parameters 100 (parameter_range 1 (negsuc 1) (pos 4)) (extremes_found 0 (negsuc 1) 10 (pos 4) 14) refl
 
 -- ---- an input with a known text
 
