@@ -10,8 +10,8 @@ use Rattle.meaning.specs.Reader.{ok, refused}
 use Rattle.meaning.specs.Answer.{answer, answer_by, Figures}
 use Rattle.meaning.specs.EarlierReaders.{short_read, UnlessTooLong}
 use Rattle.meaning.specs.EarlierVisits.{earlier_answer, OnlyVisitsFall}
-use Rattle.meaning.specs.CCall.{Called, area_bytes, store_answer, c_call}
-use Rattle.meaning.proofs.Areas.{short-area, long-area}
+use Rattle.meaning.specs.CCall.{Called, area_bytes, fill_area, c_call}
+use Rattle.meaning.proofs.Areas.{short-area, long-area, call-fills}
 use Rattle.meaning.proofs.Answers.{answer_ok, call-number-zero, call-figures}
 use Rattle.meaning.proofs.LongerSheets.{answered-alike}
 use Rattle.meaning.proofs.FewerVisits.{answer-falls}
@@ -52,19 +52,18 @@ module _ (sheet : List ℕ) (ps : List ℤ) (budget : ℕ) (area : List ℕ) whe
 
   -- refusal 9
   pub promised-short : SmallParameters ps → length area < area_length → Promised 9 area
-  unfolding c_call
-  promised-short small h = promised small (record { number = 9; area = area }) (short-area area_length area_bytes area (answer sheet ps budget) h)
+  promised-short small h = promised small (record { number = 9; area = area }) (call-fills sheet ps budget area ∙ short-area area_length area_bytes area (answer sheet ps budget) h)
 
   -- a refusal of the library call
   pub promised-refused : SmallParameters ps → (number place : ℕ) → area_length ≤ length area → refused number place ≡ answer sheet ps budget → Promised number area
-  unfolding c_call store_answer
+  unfolding fill_area
   promised-refused small number place h e =
-      promised small (record { number = number; area = area }) (long-area area_length area_bytes area (answer sheet ps budget) h (sym e))
+      promised small (record { number = number; area = area }) (call-fills sheet ps budget area ∙ long-area area_length area_bytes area (answer sheet ps budget) h (sym e))
 
   -- figures
   pub promised-figures : SmallParameters ps → (f : Figures) (after : List ℕ) → area_length ≤ length area → ok f ≡ answer sheet ps budget →
       after ≡ area_bytes f ++ drop area_length area → Promised 0 after
-  unfolding c_call store_answer
+  unfolding fill_area
   promised-figures small f after h e written =
       promised small (record { number = 0; area = after })
-      (long-area area_length area_bytes area (answer sheet ps budget) h (sym e) ∙ (λ t. record { number = 0; area = sym written t }))
+      (call-fills sheet ps budget area ∙ long-area area_length area_bytes area (answer sheet ps budget) h (sym e) ∙ (λ t. record { number = 0; area = sym written t }))

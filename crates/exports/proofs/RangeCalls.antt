@@ -7,7 +7,7 @@ use lib.Signed.{mag}
 use lib.ListN.{length, drop}
 use Rattle.meaning.specs.Limits.{constant_half, range_area_length}
 use Rattle.meaning.specs.Reader.{ok, refused}
-use Rattle.meaning.specs.CCall.{Called, store_answer}
+use Rattle.meaning.specs.CCall.{Called, fill_area}
 use Rattle.meaning.proofs.Areas.{short-area, long-area}
 use Rattle.ranges.specs.ParameterRange.{ParameterRange}
 use Rattle.ranges.specs.Extremes.{Extremes, extremes}
@@ -34,14 +34,14 @@ module _ (sheet : List ℕ) (ps : List ℤ) (budget : ℕ) (range : ParameterRan
 
     -- a refusal of the library call
     pub promised-refused : (number place : ℕ) → range_area_length ≤ length area → refused number place ≡ extremes sheet ps budget range → Promised number area
-    unfolding range_call store_answer
+    unfolding range_call fill_area
     promised-refused number place h e =
         promised (record { number = number; area = area }) (long-area range_area_length extremes_bytes area (extremes sheet ps budget range) h (sym e))
 
     -- an answer
     pub promised-found : (e : Extremes) (after : List ℕ) → range_area_length ≤ length area → ok e ≡ extremes sheet ps budget range →
         after ≡ extremes_bytes e ++ drop range_area_length area → Promised 0 after
-    unfolding range_call store_answer
+    unfolding range_call fill_area
     promised-found e after h same written =
         promised (record { number = 0; area = after })
         (long-area range_area_length extremes_bytes area (extremes sheet ps budget range) h (sym same) ∙ (λ t. record { number = 0; area = sym written t }))

@@ -51,7 +51,7 @@ pub fn pumdalin_figures(
         (Library.answer sheet.now (p1 ∷ p2 ∷ p3 ∷ p4 ∷ []) budget) }
 {
     if answer.len() < AREA_LENGTH {
-        return SHORT_AREA;
+        return 9;
     }
     let a = cycles(sheet, [p1, p2, p3, p4], budget);
     match a {

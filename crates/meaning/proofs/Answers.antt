@@ -19,11 +19,11 @@ use Rattle.meaning.specs.Tree.{tree}
 use Rattle.meaning.specs.Visits.{visits}
 use Rattle.meaning.specs.Report.{first_over_ceiling}
 use Rattle.meaning.specs.Answer.{Figures, figures, sheet_reports, check_ceilings, accepted, accepted_by, figures_of, check_visits, answer, answer_by, answer_with}
-use Rattle.meaning.specs.CCall.{area_bytes, c_call, number_in, figures_in}
+use Rattle.meaning.specs.CCall.{Called, area_bytes, c_call, answer_into, figures_in}
 use Rattle.meaning.proofs.Logic.{refused-is-not-ok, and_then-ok, ok-injective, refused-number}
 use Rattle.meaning.proofs.Refusals.{read-refused}
 use Rattle.meaning.proofs.Number.{unsigned-little_endian}
-use Rattle.meaning.proofs.Areas.{AreaOutcome, area_refused, answer_refused, stored, area_outcome, area-number-zero, area-refusal, area-stored, area-tail, area-length}
+use Rattle.meaning.proofs.Areas.{AreaOutcome, area_refused, answer_refused, stored, area_outcome, area-number-zero, area-refusal, area-stored, area-tail, area-length, call-fills}
 
 -- ---- the sheet
 
@@ -244,7 +244,7 @@ module _ (sheet : List ℕ) (ps : List ℤ) (budget : ℕ) where
 
 -- figures of 64 bits are read back, whatever follows them
 pub figures-in-area : (f : Figures) (rest : List ℕ) → f.least < 2 ^ 64 → f.most < 2 ^ 64 → f.visits < 2 ^ 64 → figures_in (area_bytes f ++ rest) ≡ f
-unfolding figures_in number_in area_bytes little_endian
+unfolding figures_in area_bytes little_endian
 figures-in-area f rest p q r =
     λ t. figures (unsigned-little_endian 8 f.least p t) (unsigned-little_endian 8 f.most q t) (unsigned-little_endian 8 f.visits r t)
 
@@ -256,10 +256,9 @@ length-area_bytes f = refl
 module _ (sheet : List ℕ) (ps : List ℤ) (budget : ℕ) (area : List ℕ) where
   -- the number returned is 0 to 9
   pub call-number-range : (c_call sheet ps budget area).number ≤ 9
-  unfolding c_call
-  call-number-range = go (area_outcome area_length area_bytes area (answer sheet ps budget))
+  call-number-range = rw (call-fills sheet ps budget area) (go (area_outcome area_length area_bytes area (answer sheet ps budget)))
     where
-      go : AreaOutcome area_length area_bytes area (answer sheet ps budget) → (c_call sheet ps budget area).number ≤ 9
+      go : AreaOutcome area_length area_bytes area (answer sheet ps budget) → (answer_into area_length area_bytes area (answer sheet ps budget)).number ≤ 9
       go (area_refused h e) = let n = ap (λ c. c.number) e in omega arith
       go (answer_refused number place h a e) =
           let n = ap (λ c. c.number) e in let i = answer-refusal-number sheet ps budget number place a in omega arith
@@ -267,28 +266,26 @@ module _ (sheet : List ℕ) (ps : List ℤ) (budget : ℕ) (area : List ℕ) whe
 
   -- it is 0 exactly where the answer is figures and the area is long enough
   pub call-number-zero : ((c_call sheet ps budget area).number ≡ 0) ↔ ((area_length ≤ length area) × (f : Figures) × (answer sheet ps budget ≡ ok f))
-  unfolding c_call
   call-number-zero =
-      area-number-zero area_length area_bytes area (answer sheet ps budget) (λ number place a. (answer-refusal-number sheet ps budget number place a).0)
+      rw (call-fills sheet ps budget area) (area-number-zero area_length area_bytes area (answer sheet ps budget)
+      (λ number place a. (answer-refusal-number sheet ps budget number place a).0))
 
   -- a refusal writes nothing
   pub call-refusal-area : ¬ ((c_call sheet ps budget area).number ≡ 0) → (c_call sheet ps budget area).area ≡ area
-  unfolding c_call
-  call-refusal-area = area-refusal area_length area_bytes area (answer sheet ps budget)
+  call-refusal-area = rw (call-fills sheet ps budget area) (area-refusal area_length area_bytes area (answer sheet ps budget))
 
   -- bytes past area_length never change
   pub call-area-tail : drop area_length (c_call sheet ps budget area).area ≡ drop area_length area
-  unfolding c_call
-  call-area-tail = area-tail area_length area_bytes area (answer sheet ps budget) length-area_bytes
+  call-area-tail = rw (call-fills sheet ps budget area) (area-tail area_length area_bytes area (answer sheet ps budget) length-area_bytes)
 
   pub call-area-length : length (c_call sheet ps budget area).area ≡ length area
-  unfolding c_call
-  call-area-length = area-length area_length area_bytes area (answer sheet ps budget) length-area_bytes
+  call-area-length = rw (call-fills sheet ps budget area) (area-length area_length area_bytes area (answer sheet ps budget) length-area_bytes)
 
   -- the figures are read back from the area
   pub call-figures : (f : Figures) → (c_call sheet ps budget area).number ≡ 0 → answer sheet ps budget ≡ ok f → f.least < 2 ^ 64 → f.most < 2 ^ 64 →
       f.visits < 2 ^ 64 →
       figures_in (c_call sheet ps budget area).area ≡ f
-  unfolding c_call
   call-figures f z a p q r =
-      ap figures_in (area-stored area_length area_bytes area (answer sheet ps budget) f z a) ∙ figures-in-area f (drop area_length area) p q r
+      let same = call-fills sheet ps budget area in
+      ap (λ (c : Called). figures_in c.area) same
+      ∙ ap figures_in (area-stored area_length area_bytes area (answer sheet ps budget) f (rw same at z) a) ∙ figures-in-area f (drop area_length area) p q r

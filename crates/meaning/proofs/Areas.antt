@@ -6,27 +6,30 @@ use mathlib.Core.Logic.{◌↔◌}
 use Prim.Native.Nat.{ℕ, ◌≤◌, ◌<◌}
 use native.Mathlib.Decide.{dec_le}
 use native.Mathlib.Omega.{arith}
+use lib.IntN.{ℤ}
 use lib.Dec.{leb}
 use lib.ListN.{length, drop, length-append, length-drop}
 use lib.Seq.{drop_at}
 use borrow.Author.Tests.{le-leb, lt-leb}
+use Rattle.meaning.specs.Limits.{area_length}
 use Rattle.meaning.specs.Reader.{Result, ok, refused, require}
-use Rattle.meaning.specs.CCall.{store_answer, answer_into}
+use Rattle.meaning.specs.Answer.{Figures, answer}
+use Rattle.meaning.specs.CCall.{area_bytes, store_answer, c_call, fill_area, answer_into}
 use Rattle.meaning.proofs.Logic.{refused-is-not-ok, ok-injective}
 use Rattle.meaning.proofs.Vocabulary.{called}
 
 module _ {A : Type 0} (size : ℕ) (bytes : A → List ℕ) (area : List ℕ) (r : Result A) where
-  by_tests : {c : Bool} {s : Result A} → leb size (length area) ≡ c → r ≡ s → answer_into size bytes area r ≡ store_answer size bytes area (require c 9 0 s)
+  by_tests : {c : Bool} {s : Result A} → leb size (length area) ≡ c → r ≡ s → answer_into size bytes area r ≡ fill_area size bytes area (require c 9 0 s)
   unfolding answer_into
-  by_tests e f = λ t. store_answer size bytes area (require (e t) 9 0 (f t))
+  by_tests e f = λ t. fill_area size bytes area (require (e t) 9 0 (f t))
 
   -- refusal 9
   pub short-area : length area < size → answer_into size bytes area r ≡ called 9 area
-  unfolding require store_answer
+  unfolding require fill_area
   short-area h = by_tests (lt-leb size (length area) h) refl
 
   -- otherwise what the library call answers
-  pub long-area : {s : Result A} → size ≤ length area → r ≡ s → answer_into size bytes area r ≡ store_answer size bytes area s
+  pub long-area : {s : Result A} → size ≤ length area → r ≡ s → answer_into size bytes area r ≡ fill_area size bytes area s
   unfolding require
   long-area h e = by_tests (le-leb size (length area) h) e
 
@@ -36,7 +39,7 @@ module _ {A : Type 0} (size : ℕ) (bytes : A → List ℕ) (area : List ℕ) (r
     stored : (a : A) → size ≤ length area → r ≡ ok a → answer_into size bytes area r ≡ called 0 (bytes a ++ drop size area) → AreaOutcome
 
   pub area_outcome : AreaOutcome
-  unfolding store_answer
+  unfolding fill_area
   area_outcome = by_area (dec_le size (length area))
     where
       by_answer : size ≤ length area → (s : Result A) → r ≡ s → AreaOutcome
@@ -99,3 +102,14 @@ module _ {A : Type 0} (size : ℕ) (bytes : A → List ℕ) (area : List ℕ) (r
         go (stored a h e f) =
             let n = ap (λ c. length c.area) f in
             omega (arith, length-append (bytes a) (drop size area), length-drop size area, sized a)
+
+-- what the C call stores is what fills an area of 24 bytes with the figures
+store-answer-fills : (area : List ℕ) (r : Result Figures) → store_answer area r ≡ fill_area area_length area_bytes area r
+unfolding store_answer fill_area
+store-answer-fills area (ok f) = refl
+store-answer-fills area (refused number place) = refl
+
+pub call-fills : (sheet : List ℕ) (ps : List ℤ) (budget : ℕ) (area : List ℕ) →
+    c_call sheet ps budget area ≡ answer_into area_length area_bytes area (answer sheet ps budget)
+unfolding c_call answer_into
+call-fills sheet ps budget area = store-answer-fills area (require (leb area_length (length area)) 9 0 (answer sheet ps budget))

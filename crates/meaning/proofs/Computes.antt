@@ -24,7 +24,7 @@ use Rattle.meaning.specs.ClosedSum.{first_sums, closed_sum, add_all, loop_sum, a
 use Rattle.meaning.specs.Stage.{first_state, after_end, add_arm, keep_arm, trips_kept, state_of, visit_begun, and_on, indexes_of, ranges_of}
 use Rattle.meaning.specs.Stage.{keeps_arms, enter_loop, summing, further, trips_sum, next_sums, next_arms, arms_left, end_trip, pass_record, pass, pass_from, stage, stages, visits_begun}
 use Rattle.meaning.specs.Answer.{sheet_reports, check_ceilings, figures_of, check_visits, accepted_by, answer_with}
-use Rattle.meaning.specs.CCall.{area_bytes, store_answer, answer_into, c_call, number_in, figures_in}
+use Rattle.meaning.specs.CCall.{area_bytes, store_answer, fill_area, answer_into, c_call, number_in, figures_in}
 use Rattle.meaning.specs.Text.{text, last_digit, digits, decimal}
 use Rattle.meaning.specs.ReasonLine.{uneven_line_start, reason_line, reason_lines, number_after, number_at, same_text, first_with_line, read_reason}
 use Rattle.meaning.specs.Program.{figures_line, class_name, loop_line, report_lines, loop_lines, refused_line, answer_text}
@@ -49,7 +49,7 @@ unfolding unsigned little_endian decode_signed encode_signed has_pattern unsigne
     first_failing choice_tests arms_choice_tests around_with uneven_tests own_tests loop_tests arms_loop_tests closing_tests reason_of or_else first_over_ceiling all_closed
     loop_reports arms_reports first_sums closed_sum add_all loop_sum add_trip first_state after_end add_arm keep_arm trips_kept state_of visit_begun and_on indexes_of ranges_of keeps_arms enter_loop summing
     further trips_sum next_sums next_arms arms_left end_trip
-    pass_record pass pass_from stage stages visits_begun sheet_reports check_ceilings figures_of check_visits accepted_by answer_with earlier_figures earlier_answer area_bytes store_answer answer_into c_call number_in figures_in
+    pass_record pass pass_from stage stages visits_begun sheet_reports check_ceilings figures_of check_visits accepted_by answer_with earlier_figures earlier_answer area_bytes store_answer fill_area answer_into c_call number_in figures_in
     text last_digit digits decimal uneven_line_start reason_line reason_lines number_after number_at same_text first_with_line read_reason figures_line class_name
     loop_line report_lines loop_lines refused_line answer_text input_parameters input_budget input_sheet reports_of program_text_by store_lent fit_text text_call lent_in
     hex_digit hex sheet_reports_of state_after floor_divide choose differences newton_terms newton_sum
