@@ -5,16 +5,16 @@ usage: tools/spelling.py [FOLDER]
 
 Of each crate below FOLDER (the repository's top where it is left out) it rewrites the files of specs/, proofs/ and must-fail/, and src/ but for quoted text.
 A word turns that begins with a small letter and has a capital behind a small one: types, modules and constructors keep their capitals, and hyphens between words stay.
-A lemma that would then be spelled like the definition that it speaks of gets the name in APART.
-It prints how many files changed. A second run changes none.
+A name in APART turns as it stands there: a lemma that would else be spelled like the definition that it speaks of, and a capital behind an underscore.
+It prints how many files changed. Run it once, on files in the older spelling.
 """
 
 import os
 import re
 import sys
 
-# A lemma on `countsUp`, which becomes `counts_up`.
-APART = {"counts_up": "counts-up"}
+# A lemma on `countsUp`, which becomes `counts_up`; a lemma of this repository that has the spelling of none.
+APART = {"counts_up": "counts-up", "and_T": "and_t"}
 KINDS = (".antt", ".rt", ".edit")
 QUOTED = re.compile(r'"(?:\\.|[^"\\\n])*"')
 WORD = re.compile(r"(?<![A-Za-z0-9_])[a-z][A-Za-z0-9_']*")

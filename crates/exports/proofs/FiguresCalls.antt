@@ -5,13 +5,13 @@ use Prim.Native.Nat.{ℕ, ◌^◌, ◌≤◌, ◌<◌}
 use native.Mathlib.Omega.{arith}
 use lib.IntN.{ℤ}
 use lib.ListN.{length, drop}
+use borrow.Author.Tests.{le-leb, lt-leb}
 use Rattle.meaning.specs.Limits.{area_length}
-use Rattle.meaning.specs.Reader.{ok, refused}
+use Rattle.meaning.specs.Reader.{Result, ok, refused, require}
 use Rattle.meaning.specs.Answer.{answer, answer_by, Figures}
 use Rattle.meaning.specs.EarlierReaders.{short_read, UnlessTooLong}
 use Rattle.meaning.specs.EarlierVisits.{earlier_answer, OnlyVisitsFall}
-use Rattle.meaning.specs.CCall.{Called, area_bytes, fill_area, c_call}
-use Rattle.meaning.proofs.Areas.{short-area, long-area, call-fills}
+use Rattle.meaning.specs.CCall.{Called, area_bytes, store_answer, c_call}
 use Rattle.meaning.proofs.Answers.{answer_ok, call-number-zero, call-figures}
 use Rattle.meaning.proofs.LongerSheets.{answered-alike}
 use Rattle.meaning.proofs.FewerVisits.{answer-falls}
@@ -21,6 +21,16 @@ use Rattle.exports.specs.Demand.{Stored}
 use Rattle.figures.proofs.Demands.{answer-demand}
 
 module _ (sheet : List ℕ) (ps : List ℤ) (budget : ℕ) (area : List ℕ) where
+  -- refusal 9
+  pub short-area : length area < area_length → c_call sheet ps budget area ≡ record { number = 9; area = area }
+  unfolding c_call require store_answer
+  short-area h = ap (λ c. store_answer area (require c 9 0 (answer sheet ps budget))) (lt-leb area_length (length area) h)
+
+  -- otherwise what the library call answers
+  pub long-area : (r : Result Figures) → area_length ≤ length area → r ≡ answer sheet ps budget → c_call sheet ps budget area ≡ store_answer area r
+  unfolding c_call require
+  long-area r h e = λ t. store_answer area (require (le-leb area_length (length area) h t) 9 0 (sym e t))
+
   -- the least is no more than the most, which is below the figure limit, and the visits are within the budget
   fits : (f : Figures) → answer sheet ps budget ≡ ok f → Answered sheet ps (ok f) → (f.least < 2 ^ 64) × (f.most < 2 ^ 64) × (f.visits < 2 ^ 64)
   unfolding Answered
@@ -52,18 +62,16 @@ module _ (sheet : List ℕ) (ps : List ℤ) (budget : ℕ) (area : List ℕ) whe
 
   -- refusal 9
   pub promised-short : SmallParameters ps → length area < area_length → Promised 9 area
-  promised-short small h = promised small (record { number = 9; area = area }) (call-fills sheet ps budget area ∙ short-area area_length area_bytes area (answer sheet ps budget) h)
+  promised-short small h = promised small (record { number = 9; area = area }) (short-area h)
 
   -- a refusal of the library call
   pub promised-refused : SmallParameters ps → (number place : ℕ) → area_length ≤ length area → refused number place ≡ answer sheet ps budget → Promised number area
-  unfolding fill_area
-  promised-refused small number place h e =
-      promised small (record { number = number; area = area }) (call-fills sheet ps budget area ∙ long-area area_length area_bytes area (answer sheet ps budget) h (sym e))
+  unfolding store_answer
+  promised-refused small number place h e = promised small (record { number = number; area = area }) (long-area (refused number place) h e)
 
   -- figures
   pub promised-figures : SmallParameters ps → (f : Figures) (after : List ℕ) → area_length ≤ length area → ok f ≡ answer sheet ps budget →
       after ≡ area_bytes f ++ drop area_length area → Promised 0 after
-  unfolding fill_area
+  unfolding store_answer
   promised-figures small f after h e written =
-      promised small (record { number = 0; area = after })
-      (call-fills sheet ps budget area ∙ long-area area_length area_bytes area (answer sheet ps budget) h (sym e) ∙ (λ t. record { number = 0; area = sym written t }))
+      promised small (record { number = 0; area = after }) (long-area (ok f) h e ∙ (λ t. record { number = 0; area = sym written t }))

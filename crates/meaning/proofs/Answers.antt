@@ -9,7 +9,7 @@ use native.Mathlib.Decide.{dec_le}
 use native.Mathlib.Omega.{arith}
 use lib.IntN.{ℤ}
 use lib.Dec.{leb}
-use lib.ListN.{length, drop}
+use lib.ListN.{length, length-drop, drop}
 use borrow.Author.Tests.{le-leb, lt-leb}
 use Rattle.meaning.specs.Limits.{budget_limit, area_length}
 use Rattle.meaning.specs.Number.{little_endian}
@@ -19,11 +19,11 @@ use Rattle.meaning.specs.Tree.{tree}
 use Rattle.meaning.specs.Visits.{visits}
 use Rattle.meaning.specs.Report.{first_over_ceiling}
 use Rattle.meaning.specs.Answer.{Figures, figures, sheet_reports, check_ceilings, accepted, accepted_by, figures_of, check_visits, answer, answer_by, answer_with}
-use Rattle.meaning.specs.CCall.{Called, area_bytes, c_call, answer_into, figures_in}
+use Rattle.meaning.specs.CCall.{area_bytes, store_answer, c_call, figures_in}
 use Rattle.meaning.proofs.Logic.{refused-is-not-ok, and_then-ok, ok-injective, refused-number}
 use Rattle.meaning.proofs.Refusals.{read-refused}
 use Rattle.meaning.proofs.Number.{unsigned-little_endian}
-use Rattle.meaning.proofs.Areas.{AreaOutcome, area_refused, answer_refused, stored, area_outcome, area-number-zero, area-refusal, area-stored, area-tail, area-length, call-fills}
+use Rattle.meaning.proofs.Vocabulary.{called}
 
 -- ---- the sheet
 
@@ -248,17 +248,36 @@ unfolding figures_in area_bytes little_endian
 figures-in-area f rest p q r =
     λ t. figures (unsigned-little_endian 8 f.least p t) (unsigned-little_endian 8 f.most q t) (unsigned-little_endian 8 f.visits r t)
 
--- every answer takes area_length bytes
-pub length-area_bytes : (f : Figures) → length (area_bytes f) ≡ area_length
-unfolding area_bytes little_endian
-length-area_bytes f = refl
-
 module _ (sheet : List ℕ) (ps : List ℤ) (budget : ℕ) (area : List ℕ) where
+  -- what the C call does, and when: 9, then what the library call answers
+  pub data CallOutcome : Type 0 where
+    area_refused : length area < area_length → c_call sheet ps budget area ≡ called 9 area → CallOutcome
+    answer_refused : (number place : ℕ) → area_length ≤ length area → answer sheet ps budget ≡ refused number place →
+        c_call sheet ps budget area ≡ called number area → CallOutcome
+    stored : (f : Figures) → area_length ≤ length area → answer sheet ps budget ≡ ok f →
+        c_call sheet ps budget area ≡ called 0 (area_bytes f ++ drop area_length area) → CallOutcome
+
+  pub call_outcome : CallOutcome
+  unfolding c_call require store_answer
+  call_outcome = by_area (dec_le area_length (length area))
+    where
+      same : {c : Bool} {r : Result Figures} → leb area_length (length area) ≡ c → answer sheet ps budget ≡ r →
+          c_call sheet ps budget area ≡ store_answer area (require c 9 0 r)
+      same e f = λ t. store_answer area (require (e t) 9 0 (f t))
+
+      by_answer : area_length ≤ length area → (r : Result Figures) → answer sheet ps budget ≡ r → CallOutcome
+      by_answer h (ok f) e = stored f h e (same (le-leb area_length (length area) h) e)
+      by_answer h (refused number place) e = answer_refused number place h e (same (le-leb area_length (length area) h) e)
+
+      by_area : Dec (area_length ≤ length area) → CallOutcome
+      by_area (yes h) = by_answer h (answer sheet ps budget) refl
+      by_area (no h) = let h' : length area < area_length = omega arith in area_refused h' (same (lt-leb area_length (length area) h') refl)
+
   -- the number returned is 0 to 9
   pub call-number-range : (c_call sheet ps budget area).number ≤ 9
-  call-number-range = rw (call-fills sheet ps budget area) (go (area_outcome area_length area_bytes area (answer sheet ps budget)))
+  call-number-range = go call_outcome
     where
-      go : AreaOutcome area_length area_bytes area (answer sheet ps budget) → (answer_into area_length area_bytes area (answer sheet ps budget)).number ≤ 9
+      go : CallOutcome → (c_call sheet ps budget area).number ≤ 9
       go (area_refused h e) = let n = ap (λ c. c.number) e in omega arith
       go (answer_refused number place h a e) =
           let n = ap (λ c. c.number) e in let i = answer-refusal-number sheet ps budget number place a in omega arith
@@ -266,26 +285,56 @@ module _ (sheet : List ℕ) (ps : List ℤ) (budget : ℕ) (area : List ℕ) whe
 
   -- it is 0 exactly where the answer is figures and the area is long enough
   pub call-number-zero : ((c_call sheet ps budget area).number ≡ 0) ↔ ((area_length ≤ length area) × (f : Figures) × (answer sheet ps budget ≡ ok f))
-  call-number-zero =
-      rw (call-fills sheet ps budget area) (area-number-zero area_length area_bytes area (answer sheet ps budget)
-      (λ number place a. (answer-refusal-number sheet ps budget number place a).0))
+  call-number-zero = (λ z. go z call_outcome, λ h. back h.0 h.1 h.2 call_outcome)
+    where
+      go : (c_call sheet ps budget area).number ≡ 0 → CallOutcome → (area_length ≤ length area) × (f : Figures) × (answer sheet ps budget ≡ ok f)
+      go z (area_refused h e) = absurd (let n = ap (λ c. c.number) e in omega arith)
+      go z (answer_refused number place h a e) =
+          absurd (let n = ap (λ c. c.number) e in let i = answer-refusal-number sheet ps budget number place a in omega arith)
+      go z (stored f h a e) = (h, f, a)
+
+      back : area_length ≤ length area → (f : Figures) → answer sheet ps budget ≡ ok f → CallOutcome → (c_call sheet ps budget area).number ≡ 0
+      back h f a (area_refused h' e) = absurd (omega arith)
+      back h f a (answer_refused number place h' a' e) = refused-is-not-ok (sym a' ∙ a)
+      back h f a (stored f' h' a' e) = ap (λ c. c.number) e
 
   -- a refusal writes nothing
   pub call-refusal-area : ¬ ((c_call sheet ps budget area).number ≡ 0) → (c_call sheet ps budget area).area ≡ area
-  call-refusal-area = rw (call-fills sheet ps budget area) (area-refusal area_length area_bytes area (answer sheet ps budget))
+  call-refusal-area z = go call_outcome
+    where
+      go : CallOutcome → (c_call sheet ps budget area).area ≡ area
+      go (area_refused h e) = ap (λ c. c.area) e
+      go (answer_refused number place h a e) = ap (λ c. c.area) e
+      go (stored f h a e) = absurd (z (ap (λ c. c.number) e))
 
   -- bytes past area_length never change
   pub call-area-tail : drop area_length (c_call sheet ps budget area).area ≡ drop area_length area
-  call-area-tail = rw (call-fills sheet ps budget area) (area-tail area_length area_bytes area (answer sheet ps budget) length-area_bytes)
+  unfolding area_bytes little_endian
+  call-area-tail = go call_outcome
+    where
+      go : CallOutcome → drop area_length (c_call sheet ps budget area).area ≡ drop area_length area
+      go (area_refused h e) = ap (λ c. drop area_length c.area) e
+      go (answer_refused number place h a e) = ap (λ c. drop area_length c.area) e
+      go (stored f h a e) = ap (λ c. drop area_length c.area) e
 
   pub call-area-length : length (c_call sheet ps budget area).area ≡ length area
-  call-area-length = rw (call-fills sheet ps budget area) (area-length area_length area_bytes area (answer sheet ps budget) length-area_bytes)
+  unfolding area_bytes little_endian
+  call-area-length = go call_outcome
+    where
+      go : CallOutcome → length (c_call sheet ps budget area).area ≡ length area
+      go (area_refused h e) = ap (λ c. length c.area) e
+      go (answer_refused number place h a e) = ap (λ c. length c.area) e
+      go (stored f h a e) = let n = ap (λ c. length c.area) e in omega (arith, length-drop area_length area)
 
   -- the figures are read back from the area
   pub call-figures : (f : Figures) → (c_call sheet ps budget area).number ≡ 0 → answer sheet ps budget ≡ ok f → f.least < 2 ^ 64 → f.most < 2 ^ 64 →
       f.visits < 2 ^ 64 →
       figures_in (c_call sheet ps budget area).area ≡ f
-  call-figures f z a p q r =
-      let same = call-fills sheet ps budget area in
-      ap (λ (c : Called). figures_in c.area) same
-      ∙ ap figures_in (area-stored area_length area_bytes area (answer sheet ps budget) f (rw same at z) a) ∙ figures-in-area f (drop area_length area) p q r
+  call-figures f z a p q r = go call_outcome
+    where
+      go : CallOutcome → figures_in (c_call sheet ps budget area).area ≡ f
+      go (area_refused h e) = absurd (let n = ap (λ c. c.number) e in omega arith)
+      go (answer_refused number place h a' e) = refused-is-not-ok (sym a' ∙ a)
+      go (stored f' h a' e) =
+          ap (λ c. figures_in c.area) e ∙ ap (λ x. figures_in (area_bytes x ++ drop area_length area)) (ok-injective (sym a' ∙ a))
+          ∙ figures-in-area f (drop area_length area) p q r

@@ -6,15 +6,12 @@ use mathlib.Core.Logic.{◌↔◌}
 use Prim.Native.Nat.{ℕ, ◌≤◌, ◌<◌}
 use native.Mathlib.Decide.{dec_le}
 use native.Mathlib.Omega.{arith}
-use lib.IntN.{ℤ}
 use lib.Dec.{leb}
 use lib.ListN.{length, drop, length-append, length-drop}
 use lib.Seq.{drop_at}
 use borrow.Author.Tests.{le-leb, lt-leb}
-use Rattle.meaning.specs.Limits.{area_length}
 use Rattle.meaning.specs.Reader.{Result, ok, refused, require}
-use Rattle.meaning.specs.Answer.{Figures, answer}
-use Rattle.meaning.specs.CCall.{area_bytes, store_answer, c_call, fill_area, answer_into}
+use Rattle.meaning.specs.CCall.{fill_area, answer_into}
 use Rattle.meaning.proofs.Logic.{refused-is-not-ok, ok-injective}
 use Rattle.meaning.proofs.Vocabulary.{called}
 
@@ -102,14 +99,3 @@ module _ {A : Type 0} (size : ℕ) (bytes : A → List ℕ) (area : List ℕ) (r
         go (stored a h e f) =
             let n = ap (λ c. length c.area) f in
             omega (arith, length-append (bytes a) (drop size area), length-drop size area, sized a)
-
--- what the C call stores is what fills an area of 24 bytes with the figures
-store-answer-fills : (area : List ℕ) (r : Result Figures) → store_answer area r ≡ fill_area area_length area_bytes area r
-unfolding store_answer fill_area
-store-answer-fills area (ok f) = refl
-store-answer-fills area (refused number place) = refl
-
-pub call-fills : (sheet : List ℕ) (ps : List ℤ) (budget : ℕ) (area : List ℕ) →
-    c_call sheet ps budget area ≡ answer_into area_length area_bytes area (answer sheet ps budget)
-unfolding c_call answer_into
-call-fills sheet ps budget area = store-answer-fills area (require (leb area_length (length area)) 9 0 (answer sheet ps budget))
