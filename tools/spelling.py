@@ -4,7 +4,7 @@
 usage: tools/spelling.py [FOLDER]
 
 Of each crate below FOLDER (the repository's top where it is left out) it rewrites the files of specs/, proofs/ and must-fail/, and src/ but for quoted text.
-A word turns that begins with a small letter and has a capital behind a small one: types, modules and constructors keep their capitals, and hyphens between words stay.
+A word turns that begins with a small letter and has a capital behind a small one: what begins with a capital, as types and modules, stays, and so do the hyphens between words.
 A name in APART turns as it stands there: a lemma that would else be spelled like the definition that it speaks of, and a capital behind an underscore.
 It prints how many files changed. Run it once, on files in the older spelling.
 """
