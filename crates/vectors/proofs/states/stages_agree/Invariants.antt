@@ -1,5 +1,5 @@
 -- The loop goes over as many stages as the case has.
-use Rattle.std.proofs.Common.{◌-◌, ◌≤◌, rules}
+use Rattle.std.proofs.Common.{◌-◌, ◌≤◌}
 use Rattle.vectors.proofs.states.stages_agree.Given as goal
 
 abbrev pub invariant-loop-passed : goal.invariant-loop-passed
