@@ -87,7 +87,7 @@ cases:
 	python3 reference/text_cases.py crates/vectors/data/texts --check
 	python3 reference/reason_cases.py crates/vectors/data/reasons --check
 	python3 reference/converter_cases.py crates/vectors/data/converters --check
-	python3 reference/range_cases.py crates/vectors/data/ranges --check
+	python3 reference/range_cases.py crates/range_vectors/data/ranges --check
 
 cross-check:
 	$(need) rt cc python3

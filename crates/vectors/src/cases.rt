@@ -2,7 +2,6 @@
 use crate::calls::CALL;
 use crate::numbers::PARAMETERS;
 use crate::plans::LINE;
-use crate::range_calls::RANGE;
 use encoding::number::{byte_at, signed8_at, signed16_at, unsigned16_at};
 use form::packed::PackedForm;
 use records::Record;
@@ -26,8 +25,6 @@ pub(crate) const LINES: u8 = 7;
 pub(crate) const WITH_SKIPS: u8 = 8;
 
 pub(crate) const WITHOUT_SKIPS: u8 = 9;
-
-pub(crate) const RANGES: u8 = 10;
 
 // No case has more entries, save one of texts, stages or a converter, which says how many bytes follow its sheet.
 const MOST_ENTRIES: usize = 150;
@@ -59,8 +56,8 @@ pub(crate) fn case_of(header: &[u8]) -> Case {
     }
 }
 
-// How many bytes follow the sheet: a text, a number and a new sheet, records, parameters and the lines of loops, a call, one over a
-// range, or parameters and states.
+// How many bytes follow the sheet: a text, a number and a new sheet, records, parameters and the lines of loops, a call, or
+// parameters and states.
 pub(crate) fn entries_length(case: Case) -> usize {
     let entries = case.entries;
     if case.which == TEXTS || case.which == WITH_SKIPS || case.which == WITHOUT_SKIPS {
@@ -77,9 +74,6 @@ pub(crate) fn entries_length(case: Case) -> usize {
     }
     if case.which == CALLS {
         return CALL;
-    }
-    if case.which == RANGES {
-        return RANGE;
     }
     ENTRY * entries
 }

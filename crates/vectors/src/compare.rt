@@ -1,13 +1,12 @@
 // Whether the reader and the writer do as reckoned.
 use crate::calls::calls_agree;
 use crate::cases::{
-    CALLS, Case, ENTRY, LINES, PLAN, RANGES, READER, STAGES, TEXTS, WITH_SKIPS, WITHOUT_SKIPS,
-    WRITER, entries_length, record_in,
+    CALLS, Case, ENTRY, LINES, PLAN, READER, STAGES, TEXTS, WITH_SKIPS, WITHOUT_SKIPS, WRITER,
+    entries_length, record_in,
 };
 use crate::conversions::conversion_agrees;
 use crate::lines::line_agrees;
 use crate::plans::plan_agrees;
-use crate::range_calls::range_agrees;
 use crate::states::stages_agree;
 use crate::texts::text_agrees;
 use form::packed::PackedForm;
@@ -178,7 +177,6 @@ pub(crate) fn agrees(case: Case, sheets: &[u8], entries: &[u8]) -> bool {
         LINES => line_agrees(case, sheet),
         WITH_SKIPS => conversion_agrees(case, sheet, own),
         WITHOUT_SKIPS => conversion_agrees(case, sheet, own),
-        RANGES => range_agrees(case, sheet, own),
         _ => false,
     }
 }

@@ -1,5 +1,5 @@
-// Runs the stored cases of the reader, the writer, the plan, the calls, the stage, the texts, the reasons' lines, the converters and
-// the calls over a range, and says how many there are and how many differ.
+// Runs the stored cases of the reader, the writer, the plan, the calls, the stage, the texts, the reasons' lines and the converters,
+// and says how many there are and how many differ.
 #![tactic(auto)]
 
 mod calls;
@@ -9,13 +9,11 @@ mod conversions;
 mod lines;
 mod numbers;
 mod plans;
-mod range_calls;
 mod states;
 mod texts;
 
 use crate::cases::{
-    LINES, PLAN, RANGES, READER, STAGES, TEXTS, WITH_SKIPS, WITHOUT_SKIPS, WRITER, case_of,
-    entries_length,
+    LINES, PLAN, READER, STAGES, TEXTS, WITH_SKIPS, WITHOUT_SKIPS, WRITER, case_of, entries_length,
 };
 use crate::compare::agrees;
 use std::fs::File;
@@ -35,7 +33,6 @@ struct Tally {
     texts: u64,
     lines: u64,
     conversions: u64,
-    ranges: u64,
     differing: u64,
     more: bool,
 }
@@ -67,9 +64,6 @@ fn counted(tally: Tally, which: u8, agrees: bool) -> Tally {
         }
         WITHOUT_SKIPS => {
             next.conversions = next.conversions.wrapping_add(1);
-        }
-        RANGES => {
-            next.ranges = next.ranges.wrapping_add(1);
         }
         _ => {
             next.calls = next.calls.wrapping_add(1);
@@ -159,7 +153,6 @@ fn main(rt: HostRuntime) -> io::Result<()> {
         texts: 0,
         lines: 0,
         conversions: 0,
-        ranges: 0,
         differing: 0,
         more: true,
     };
@@ -169,8 +162,7 @@ fn main(rt: HostRuntime) -> io::Result<()> {
     let stages = run_file(&rt, "stages", figures)?;
     let texts = run_file(&rt, "texts", stages)?;
     let lines = run_file(&rt, "reasons", texts)?;
-    let converters = run_file(&rt, "converters", lines)?;
-    let tally = run_file(&rt, "ranges", converters)?;
+    let tally = run_file(&rt, "converters", lines)?;
     print_line(&rt, "sheets read: ", tally.readings)?;
     print_line(&rt, "sheets written: ", tally.writings)?;
     print_line(&rt, "plans made: ", tally.plans)?;
@@ -179,6 +171,5 @@ fn main(rt: HostRuntime) -> io::Result<()> {
     print_line(&rt, "texts stored: ", tally.texts)?;
     print_line(&rt, "lines read back: ", tally.lines)?;
     print_line(&rt, "sheets converted: ", tally.conversions)?;
-    print_line(&rt, "ranges answered: ", tally.ranges)?;
     print_line(&rt, "otherwise than reckoned: ", tally.differing)
 }

@@ -1,5 +1,5 @@
 -- The loop stays within the buffer.
-use Rattle.std.proofs.Common.{◌-◌, length, rules}
+use Rattle.std.proofs.Common.{◌-◌, length}
 use Rattle.vectors.proofs.compare.still_filled.Given as goal
 
 abbrev pub invariant-loop-i : goal.invariant-loop-i

@@ -1,5 +1,5 @@
 -- The parts that are lent are as long as asked for.
-use Rattle.std.proofs.Common.{sym, arith, length-take-le, rules}
+use Rattle.std.proofs.Common.{sym, arith, length-take-le}
 use Rattle.vectors.proofs.conversions.call_into.Goals as goal
 
 pub slice_bounds-pumdalin_with_skips-end-then-which-eq-WITH_SKIPS : goal.slice_bounds-pumdalin_with_skips-end-then-which-eq-WITH_SKIPS

@@ -1,5 +1,5 @@
 -- The part that is written into is as long as asked for.
-use Rattle.std.proofs.Common.{sym, arith, length-take-le, rules}
+use Rattle.std.proofs.Common.{sym, arith, length-take-le}
 use Rattle.vectors.proofs.conversions.convert_into.Goals as goal
 
 pub slice_bounds-with_skips-end-then-which-eq-WITH_SKIPS : goal.slice_bounds-with_skips-end-then-which-eq-WITH_SKIPS

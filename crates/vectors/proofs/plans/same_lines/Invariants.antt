@@ -1,5 +1,5 @@
 -- The loop stays within the records that there may be.
-use Rattle.std.proofs.Common.{◌-◌, ◌≤◌, rules}
+use Rattle.std.proofs.Common.{◌-◌, ◌≤◌}
 use Rattle.meaning.specs.Limits.{record_limit}
 use Rattle.vectors.proofs.plans.same_lines.Given as goal
 

@@ -1,5 +1,5 @@
 -- The loop goes over as many arms as are kept.
-use Rattle.std.proofs.Common.{◌-◌, ◌≤◌, rules}
+use Rattle.std.proofs.Common.{◌-◌, ◌≤◌}
 use Rattle.vectors.proofs.states.after_arms.Given as goal
 
 abbrev pub invariant-loop-number : goal.invariant-loop-number

@@ -1,5 +1,5 @@
 -- The parts that are lent are as long as asked for.
-use Rattle.std.proofs.Common.{sym, arith, length-take-le, rules}
+use Rattle.std.proofs.Common.{sym, arith, length-take-le}
 use Rattle.vectors.proofs.texts.text_into.Goals as goal
 
 pub slice_bounds-pumdalin_text-end-2 : goal.slice_bounds-pumdalin_text-end-2

@@ -1,11 +1,12 @@
 // Whether the library call and the C call over a range answer as reckoned.
-use crate::cases::Case;
-use crate::compare::{same_bytes, still_filled};
-use crate::numbers::{parameters_in, unsigned64_at};
+use crate::cases::{Case, parameters_in, unsigned64_at};
 use encoding::number::{byte_at, signed16_at, unsigned32_at};
 use exports::pumdalin_range;
 use sweep::extremes::{Extremes, RangeAnswer, cycles_over_range};
 use sweep::values::ParameterRange;
+
+// What the header's first byte says.
+pub(crate) const RANGES: u8 = 10;
 
 // Parameters, budget, range, the C call's number and the five numbers of its area: how many bytes follow the sheet.
 pub(crate) const RANGE: usize = 61;
@@ -64,27 +65,17 @@ fn call_into(sheet: &[u8], given: &[u8], area: &mut [u8], room: usize) -> u32 {
     )
 }
 
-// The area in what follows the sheet.
-fn area_in(given: &[u8]) -> &[u8] {
-    if given.len() < NUMBER + 1 {
-        return &given[..0];
-    }
-    &given[NUMBER + 1..]
-}
-
 // What follows the 40th byte has to stay, and every byte where the call refuses.
-fn c_agrees(case: Case, sheet: &[u8], given: &[u8]) -> bool {
+fn c_agrees(case: Case, sheet: &[u8], given: &[u8; RANGE]) -> bool {
     let mut area: [u8; 80] = [167; 80];
+    let mut wanted: [u8; 80] = [167; 80];
     let number = call_into(sheet, given, &mut area, case.count);
-    if number != (byte_at(given, NUMBER) as u32) {
-        return false;
+    if number == 0 {
+        wanted[..40].copy_from_slice(&given[NUMBER + 1..]);
     }
-    if number != 0 {
-        return still_filled(&area, 0);
-    }
-    same_bytes(&area, area_in(given), 40) && still_filled(&area, 40)
+    number == (byte_at(given, NUMBER) as u32) && area == wanted
 }
 
-pub(crate) fn range_agrees(case: Case, sheet: &[u8], given: &[u8]) -> bool {
+pub(crate) fn range_agrees(case: Case, sheet: &[u8], given: &[u8; RANGE]) -> bool {
     library_agrees(case, sheet, given) && c_agrees(case, sheet, given)
 }
