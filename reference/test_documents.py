@@ -215,6 +215,12 @@ class Header(unittest.TestCase):
             self.assertIn(f"{TEXT_LENGTH:,} bytes", document(name))
 
 
+class Version(unittest.TestCase):
+    def test_version(self) -> None:
+        """The command has a copy, since no file may be a link."""
+        self.assertEqual(document("command", "pumdalin", "VERSION"), document("VERSION"))
+
+
 class Picture(unittest.TestCase):
     def test_stored(self) -> None:
         with open(os.path.join(ROOT, "docs", "figures.svg"), "rb") as file:
