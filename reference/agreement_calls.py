@@ -147,7 +147,7 @@ class RangeCall(Call):
     area: bytes
     answer: RangeAnswer
 
-    number = 4
+    number = 5
     name = "pumdalin_range"
     block_names = ("sheet", "area")
 

@@ -64,7 +64,7 @@ static uint32_t range(const uint64_t *scalars, const struct block *blocks)
                           blocks[1].bytes, blocks[1].length);
 }
 
-/* The calls by their numbers. */
+/* The calls by their numbers; there is none with the number 4. */
 static const struct call {
     uint32_t (*make)(const uint64_t *scalars, const struct block *blocks);
     size_t scalars, blocks;
@@ -73,6 +73,7 @@ static const struct call {
     {text, 0, 3},
     {with_skips, 0, 3},
     {without_skips, 0, 3},
+    {NULL, 0, 0},
     {range, 8, 2},
 };
 
@@ -101,7 +102,7 @@ static uint64_t read_number(size_t length)
 static const struct call *read_call(void)
 {
     uint64_t number = read_number(4), scalars = read_number(4), blocks = read_number(4);
-    if (number >= sizeof calls / sizeof calls[0])
+    if (number >= sizeof calls / sizeof calls[0] || calls[number].make == NULL)
         fail("there is no call with this number");
     if (scalars != calls[number].scalars || blocks != calls[number].blocks)
         fail("the call has another number of scalars or blocks");

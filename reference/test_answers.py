@@ -81,7 +81,7 @@ def told_by(call: int) -> int:
     return TOLD + 256 * call
 
 
-RANGE = 4
+RANGE = 5
 
 LIBRARY = FIGURES_CALL + RANGE_CALL.replace("RETURNED", str(told_by(RANGE))) + "".join(
     LENT_CALL.replace("NAME", name).replace("RETURNED", str(told_by(call))) for call, name in LENT_CALLS.items())
@@ -153,7 +153,7 @@ class Answers(unittest.TestCase):
         for wrong, message in [
             (FIGURES[:-1], "a question is cut off"),
             (FIGURES[:3], "a question is cut off"),
-            (question(5, [], []), "there is no call with this number"),
+            (question(4, [], []), "there is no call with this number"),
             (question(0, [0] * 4, [b"", b""]), "another number of scalars or blocks"),
             (question(1, [], [b"", b""]), "another number of scalars or blocks"),
             (question(3, [0], [b"", b"", b""]), "another number of scalars or blocks"),

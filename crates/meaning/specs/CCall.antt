@@ -26,7 +26,7 @@ c_call sheet parameters budget area = store_answer area (require (leb area_lengt
 unfoldable pub figures_in : List ℕ → Figures
 figures_in area = figures (unsigned (take 8 area)) (unsigned (take 8 (drop 8 area))) (unsigned (take 8 (drop 16 area)))
 
--- Of every call that fills an answer area: an answer takes `size` bytes, and these are its bytes.
+-- Of a call that fills an answer area with an answer of `size` bytes, as that over a range does, and these are its bytes.
 module _ {A : Type 0} (size : ℕ) (bytes : A → List ℕ) where
   -- bytes past the answer's never change; a refusal writes nothing
   unfoldable pub fill_area : List ℕ → Result A → Called

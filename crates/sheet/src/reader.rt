@@ -20,7 +20,7 @@ pub enum ReadAnswer {
 }
 
 // The records of a sheet, blank ones after them, and how many there are or the refusal.
-#[derive(Drop)]
+#[derive(Clone, Copy)]
 pub struct RecordsRead {
     pub records: Records,
     pub answer: ReadAnswer,

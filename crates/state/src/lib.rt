@@ -14,7 +14,7 @@ use crate::open::{OPEN_NUMBERS, Open};
 use crate::sums::{SUM_NUMBERS, Sums};
 
 // Where it stands (the number of a record), its sums, and what is open.
-#[derive(Drop)]
+#[derive(Clone, Copy)]
 pub struct State {
     pub at: usize,
     pub sums: Sums,

@@ -14,7 +14,7 @@ const STATE: usize = 24;
 // How many bytes a kept arm takes: its least and its most.
 const ARM: usize = 16;
 
-fn same_state(s: &State, kept: usize, line: &[u8]) -> bool {
+fn same_state(s: State, kept: usize, line: &[u8]) -> bool {
     let sums = s.sums;
     let at = s.at == unsigned16_at(line, 0) as usize;
     let visits = sums[VISITS] == unsigned32_at(line, 2) as u64;
@@ -63,16 +63,17 @@ fn after_arms(opened: &Open, kept: usize, given: &[u8], from: usize) -> usize {
 }
 
 // The offset after a state and its kept arms in the given numbers; 0 where these are others.
-fn after_state(s: &State, given: &[u8], at: usize) -> usize {
+fn after_state(s: State, given: &[u8], at: usize) -> usize {
     if given.len() <= at {
         return 0;
     }
     if given.len() - at < STATE {
         return 0;
     }
-    let kept = kept_arms(&s.opened);
+    let opened = s.opened;
+    let kept = kept_arms(&opened);
     if same_state(s, kept, &given[at..at + STATE]) {
-        after_arms(&s.opened, kept, given, at + STATE)
+        after_arms(&opened, kept, given, at + STATE)
     } else {
         0
     }
@@ -87,7 +88,7 @@ pub(crate) fn stages_agree(case: Case, sheet: &[u8], given: &[u8]) -> bool {
     while passed < stages {
         let next = stage(sheet, parameters, s);
         s = next;
-        at = after_state(&s, given, at);
+        at = after_state(s, given, at);
         if at == 0 {
             return false;
         }
