@@ -7,7 +7,7 @@ pub const INDEX_FACTORS: usize = 3;
 
 pub const PARAMETER_FACTORS: usize = 4;
 
-#[derive(Clone, Copy)]
+#[derive(Clone, Copy, PartialEq, Eq)]
 pub struct PackedForm {
     pub constant: i16,
     pub index: [i8; INDEX_FACTORS],

@@ -1,12 +1,12 @@
 -- Kinds by their numbers: what follows for a number from each kind and from no kind; a record from its body.
 use mathlib.Core.Path.{◌≡◌, refl, sym, ap, subst, ◌∙◌}
 use mathlib.Core.List.{List}
-use mathlib.Core.Bool.{Bool, true, false, cond, ◌&&◌, ◌||◌}
+use mathlib.Core.Bool.{Bool, true, false, cond, ◌||◌}
 use mathlib.Core.Option.{Option, none, some}
-use Prim.Native.Nat.{ℕ, zero, suc, ◌<◌}
+use Prim.Native.Nat.{ℕ, ◌<◌}
 use native.Mathlib.Omega.{arith}
-use borrow.Author.Tests.{leb-true, le-leb, eqb-true, eqb-false, ne_eqb}
-use lib.Dec.{leb, eqb}
+use borrow.Author.Tests.{eqb-true, eqb-false, ne_eqb}
+use lib.Dec.{eqb}
 use Rattle.meaning.specs.Record as M
 use Rattle.meaning.specs.Record.{Kind, work_kind, loop_kind, end_kind, choice_kind, next_arm_kind, kind_number, kind_of, is_given, skip_where, skip_or, decode_record, loop_record}
 use Rattle.meaning.proofs.Logic.{none-is-not-some, true-is-not-false}
@@ -14,7 +14,7 @@ use Rattle.meaning.proofs.RecordBytes.{kind_of-kind_number, kind_number-kind_of}
 use Rattle.records.specs.declared.work.Work.{Work}
 use Rattle.records.specs.declared.loops.Loop.{Loop}
 use Rattle.records.specs.declared.Record.{Record}
-use Rattle.records.specs.View.{is_some_kind, is_loop_kind, is_kind, is_loop, blank_work, blank_record, work_of, loop_of, record_in, decoded_as, decoded}
+use Rattle.records.specs.View.{is_loop_kind, is_loop, blank_work, blank_record, work_of, loop_of, record_in, decoded_as, decoded}
 
 by_number : (P : ℕ → Option Kind → Type 0) (n m : ℕ) (x y : Option Kind) → P m x → ((n ≡ m → ⊥) → P n y) → P n (cond (eqb n m) x y)
 by_number P n m x y p q = go (eqb n m) refl
@@ -37,19 +37,7 @@ by_kind P work loop end choice arm skip_loop other n =
     by_number P n 6 (some (loop_kind true)) none skip_loop λ h6.
     other n λ above below. omega arith
 
--- kinds have the numbers 1 to 6, and loops 2 and 6
-pub kind-range : (n : ℕ) → leb 1 n && leb n 6 ≡ is_kind n
-unfolding is_some_kind
-kind-range = by_kind (λ (n : ℕ) (k : Option Kind). leb 1 n && leb n 6 ≡ is_some_kind k) refl refl refl refl refl refl outside
-  where
-    outside : (n : ℕ) → (0 < n → n < 7 → ⊥) → leb 1 n && leb n 6 ≡ false
-    outside zero h = refl
-    outside (suc n) h = ap (λ (b : Bool). b && leb (suc n) 6) (le-leb 1 (suc n) (omega arith)) ∙ go (leb (suc n) 6) refl
-      where
-        go : (b : Bool) → leb (suc n) 6 ≡ b → b ≡ false
-        go true e = let small = leb-true (suc n) 6 e in absurd (h (omega arith) (omega arith))
-        go false e = refl
-
+-- the numbers of loops are 2 and 6
 pub loop-numbers : (n : ℕ) → eqb n 2 || eqb n 6 ≡ is_loop n
 unfolding is_loop_kind
 loop-numbers =
@@ -98,12 +86,12 @@ kind-without-fields P end choice arm =
 -- ---- a record from its body: a blank one of its kind, in which the kind's fields are stored
 
 module _ (kind : ℕ) (body : List ℕ) {r : Record} (blank : r ≡ blank_record kind) where
-  pub decoded-work : kind ≡ 1 → {w : Work} → work_of w ≡ decode_record work_kind body
+  pub decoded-work : kind_of kind ≡ some work_kind → {w : Work} → work_of w ≡ decode_record work_kind body
       → record { kind = r.kind; work = w; looping = r.looping } ≡ decoded kind body
   unfolding decoded decoded_as kind_number record_in
-  decoded-work is {w} e =
-      (λ i. record { kind = (ap (λ (x : Record). x.kind) blank ∙ is) i; work = w; looping = (blank i).looping })
-      ∙ ap record_in e ∙ sym (ap (decoded_as kind body) (named work_kind is))
+  decoded-work name {w} e =
+      (λ i. record { kind = (ap (λ (x : Record). x.kind) blank ∙ sym (kind_number-kind_of kind work_kind name)) i; work = w; looping = (blank i).looping })
+      ∙ ap record_in e ∙ sym (ap (decoded_as kind body) name)
 
   -- the fields of a loop, which are 0 where its kind has none, as the record that they were read from
   packed-again : (has_skip : Bool) {l : Loop} → (has_skip ≡ false → l.skip ≡ 0) →
@@ -123,14 +111,26 @@ module _ (kind : ℕ) (body : List ℕ) {r : Record} (blank : r ≡ blank_record
   }
   packed-again true z = refl
 
-  pub decoded-loop : is_loop kind ≡ true → {l : Loop} {has_skip : Bool} → has_skip ≡ eqb kind 6 → loop_record (loop_of has_skip l) ≡ decode_record (loop_kind has_skip) body →
+  pub decoded-loop : {has_skip : Bool} → kind_of kind ≡ some (loop_kind has_skip) → {l : Loop} → loop_record (loop_of has_skip l) ≡ decode_record (loop_kind has_skip) body →
       (has_skip ≡ false → l.skip ≡ 0) → record { kind = r.kind; work = r.work; looping = l } ≡ decoded kind body
   unfolding decoded decoded_as
-  decoded-loop is {l} {has_skip} same e z =
-      let name : kind_of kind ≡ some (loop_kind has_skip) = loop-named kind is ∙ ap (λ (s : Bool). some (loop_kind s)) (sym same) in
+  decoded-loop {has_skip} name {l} e z =
       (λ i. record { kind = (ap (λ (x : Record). x.kind) blank ∙ sym (kind_number-kind_of kind (loop_kind has_skip) name)) i; work = (blank i).work; looping = l })
       ∙ packed-again has_skip z ∙ ap record_in e ∙ sym (ap (decoded_as kind body) name)
 
-  pub decoded-other : (kind ≡ 1 → ⊥) → is_loop kind ≡ false → r ≡ decoded kind body
-  unfolding decoded decoded_as decode_record kind_number record_in
-  decoded-other h1 h2 = blank ∙ without-fields (λ (n : ℕ) (k : Option Kind). blank_record n ≡ decoded_as n body k) refl refl refl (λ n. refl) h1 h2
+  -- a kind without fields, or none: nothing is stored
+  pub decoded-end : kind_of kind ≡ some end_kind → r ≡ decoded kind body
+  unfolding decoded decoded_as decode_record record_in
+  decoded-end name = blank ∙ ap blank_record (sym (kind_number-kind_of kind end_kind name)) ∙ sym (ap (decoded_as kind body) name)
+
+  pub decoded-choice : kind_of kind ≡ some choice_kind → r ≡ decoded kind body
+  unfolding decoded decoded_as decode_record record_in
+  decoded-choice name = blank ∙ ap blank_record (sym (kind_number-kind_of kind choice_kind name)) ∙ sym (ap (decoded_as kind body) name)
+
+  pub decoded-next_arm : kind_of kind ≡ some next_arm_kind → r ≡ decoded kind body
+  unfolding decoded decoded_as decode_record record_in
+  decoded-next_arm name = blank ∙ ap blank_record (sym (kind_number-kind_of kind next_arm_kind name)) ∙ sym (ap (decoded_as kind body) name)
+
+  pub decoded-none : kind_of kind ≡ none → r ≡ decoded kind body
+  unfolding decoded decoded_as
+  decoded-none name = blank ∙ sym (ap (decoded_as kind body) name)

@@ -7,9 +7,26 @@ use Rattle.meaning.specs.Record.{skip_where, skip_or, work_record, loop_record, 
 use Rattle.meaning.specs.Number.{unsigned16}
 use Rattle.meaning.specs.Writer.{RawRecord}
 use Rattle.form.specs.Packed.{form_of, packed, blank_form}
+use Rattle.std.specs.Prelude as std
+use Rattle.std.specs.Prelude.{Some, None}
+use Rattle.records.specs.declared.Kind as code_kind
+use Rattle.records.specs.declared.Kind.TheVariants as variant
 use Rattle.records.specs.declared.work.Work.{Work}
 use Rattle.records.specs.declared.loops.Loop.{Loop}
 use Rattle.records.specs.declared.Record.{Record}
+
+-- the kind that a variant stands for, and one or none
+abbrev pub meant_kind : code_kind.Kind → Kind
+meant_kind variant.Work = work_kind
+meant_kind variant.Loop = loop_kind false
+meant_kind variant.End = end_kind
+meant_kind variant.Choice = choice_kind
+meant_kind variant.NextArm = next_arm_kind
+meant_kind variant.SkipLoop = loop_kind true
+
+abbrev pub meant : std.Option code_kind.Kind → Option Kind
+meant (Some k) = some (meant_kind k)
+meant None = none
 
 -- fields that are all 0
 abbrev pub blank_work : Work

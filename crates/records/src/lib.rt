@@ -5,23 +5,48 @@ pub mod loops;
 pub mod work;
 
 ghost use Rattle.std.specs.Prelude.{◌≡◌};
-ghost use Rattle.records.specs.View.{is_kind, is_loop, blank_record, decoded, length_of_kind};
+ghost use Rattle.meaning.specs.Record.{kind_number, kind_of};
+ghost use Rattle.records.specs.View.{meant, meant_kind, is_kind, is_loop, blank_record, decoded, length_of_kind};
 
 use crate::loops::Loop;
 use crate::work::Work;
 
-pub const WORK: u8 = 1;
+// What a record can be.
+#[derive(Clone, Copy, PartialEq, Eq)]
+pub enum Kind {
+    Work = 1,
+    Loop = 2,
+    End = 3,
+    Choice = 4,
+    NextArm = 5,
+    // A loop with a skip of its own.
+    SkipLoop = 6,
+}
 
-pub const LOOP: u8 = 2;
+impl Kind {
+    // The kind with this number.
+    #[tactic(auto, unfolding(meaning::specs::Record::kind_of))]
+    pub fn of(number: u8) -> Option<Kind>
+        ensures { meant result ≡ kind_of number }
+    {
+        match number {
+            1 => Some(Kind::Work),
+            2 => Some(Kind::Loop),
+            3 => Some(Kind::End),
+            4 => Some(Kind::Choice),
+            5 => Some(Kind::NextArm),
+            6 => Some(Kind::SkipLoop),
+            _ => None,
+        }
+    }
 
-pub const END: u8 = 3;
-
-pub const CHOICE: u8 = 4;
-
-pub const NEXT_ARM: u8 = 5;
-
-// A loop with a skip of its own.
-pub const SKIP_LOOP: u8 = 6;
+    // The number of the kind.
+    pub fn number(self) -> u8
+        ensures { result ≡ kind_number (meant_kind self) }
+    {
+        self as u8
+    }
+}
 
 pub const MAX_RECORDS: usize = 128;
 
@@ -32,8 +57,9 @@ pub const MAX_RECORD_LENGTH: usize = 1 + Loop::SKIP_BODY_LENGTH;
 
 pub const MAX_SHEET_LENGTH: usize = MAX_RECORDS * MAX_RECORD_LENGTH;
 
-#[derive(Clone, Copy)]
+#[derive(Clone, Copy, PartialEq, Eq)]
 pub struct Record {
+    // A number and no `Kind`, since the writer refuses 2 for a record with any other number.
     pub kind: u8,
     pub work: Work,
     pub looping: Loop,
@@ -59,47 +85,50 @@ impl Record {
     pub fn decode(kind: u8, body: &[u8]) -> Record
         ensures { result ≡ decoded kind body.now }
     {
-        let mut record = Record::blank(kind);
-        if kind == WORK {
-            let work = Work::decode(body);
-            record.work = work;
-            return record;
+        let blank = Record::blank(kind);
+        match Kind::of(kind) {
+            Some(Kind::Work) => Record {
+                work: Work::decode(body),
+                ..blank
+            },
+            Some(Kind::Loop) => Record {
+                looping: Loop::decode(body, false),
+                ..blank
+            },
+            Some(Kind::SkipLoop) => Record {
+                looping: Loop::decode(body, true),
+                ..blank
+            },
+            Some(Kind::End | Kind::Choice | Kind::NextArm) | None => blank,
         }
-        if is_loop(kind) {
-            let looping = Loop::decode(body, kind == SKIP_LOOP);
-            record.looping = looping;
-            return record;
-        }
-        record
     }
 }
 
 // Whether a number is that of a kind.
+#[tactic(auto, unfolding(crate::specs::View::is_some_kind))]
 pub fn is_kind(number: u8) -> bool
     ensures { result ≡ is_kind number }
 {
-    WORK <= number && number <= SKIP_LOOP
+    Kind::of(number).is_some()
 }
 
 // Whether a kind is one of the two kinds of loops.
+#[tactic(auto, unfolding(crate::specs::View::is_loop_kind))]
 pub fn is_loop(kind: u8) -> bool
     ensures { result ≡ is_loop kind }
 {
-    kind == LOOP || kind == SKIP_LOOP
+    matches!(Kind::of(kind), Some(Kind::Loop | Kind::SkipLoop))
 }
 
 // The length of a kind's body; 0 for a number that is no kind.
+#[tactic(auto, unfolding(crate::specs::View::length_of_kind, crate::specs::View::length_of, meaning::specs::Record::body_length))]
 pub fn body_length(kind: u8) -> usize
     ensures { result ≡ length_of_kind kind }
 {
-    if kind == WORK {
-        return Work::BODY_LENGTH;
+    match Kind::of(kind) {
+        Some(Kind::Work) => Work::BODY_LENGTH,
+        Some(Kind::Loop) => Loop::BODY_LENGTH,
+        Some(Kind::SkipLoop) => Loop::SKIP_BODY_LENGTH,
+        Some(Kind::End | Kind::Choice | Kind::NextArm) | None => 0,
     }
-    if kind == LOOP {
-        return Loop::BODY_LENGTH;
-    }
-    if kind == SKIP_LOOP {
-        return Loop::SKIP_BODY_LENGTH;
-    }
-    0
 }

@@ -12,7 +12,7 @@ use encoding::number::{byte_at, signed8_at, signed16_at, unsigned16_at};
 use form::packed::PackedForm;
 
 // A negative stride counts down. Of kind 2, which has no skip of its own, the skip's field is 0.
-#[derive(Clone, Copy)]
+#[derive(Clone, Copy, PartialEq, Eq)]
 pub struct Loop {
     pub start: u16,
     pub step: u16,

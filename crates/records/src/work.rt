@@ -5,7 +5,7 @@ ghost use Rattle.records.specs.View.{work_of};
 
 use encoding::number::unsigned16_at;
 
-#[derive(Clone, Copy)]
+#[derive(Clone, Copy, PartialEq, Eq)]
 pub struct Work {
     pub least: u16,
     pub most: u16,
