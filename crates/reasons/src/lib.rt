@@ -5,7 +5,7 @@ pub mod line;
 pub mod reading;
 
 // Document 02: reason, with the offsets of choice C, loop K and loop M.
-#[derive(Clone, Copy)]
+#[derive(Clone, Copy, PartialEq, Eq)]
 pub enum Reason {
     // `choice C holds a loop`
     HoldsLoop(u16),
@@ -13,11 +13,4 @@ pub enum Reason {
     TooFewTrips(u16),
     // `loop K is uneven in loop M`
     UnevenIn(u16, u16),
-}
-
-// What a search or a reading found.
-#[derive(Clone, Copy)]
-pub enum Found {
-    Because(Reason),
-    Nothing,
 }

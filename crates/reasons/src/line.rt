@@ -34,7 +34,7 @@ fn put_numbered(buffer: &mut [u8], at: usize, phrase: &[u8], offset: u16) -> usi
     ensures short { result ≤ at + length phrase.now + decimal_limit }
 {
     let at = put(buffer, at, phrase);
-    put_decimal(buffer, at, offset as u64)
+    put_decimal(buffer, at, u64::from(offset))
 }
 
 // The line of an uneven loop, up to the offset of loop M.
@@ -63,7 +63,7 @@ pub fn put_reason_line(buffer: &mut [u8], at: usize, reason: Reason) -> usize
         }
         Reason::UnevenIn(k, m) => {
             let at = put_uneven_start(buffer, at, k);
-            let at = put_decimal(buffer, at, m as u64);
+            let at = put_decimal(buffer, at, u64::from(m));
             put(buffer, at, &LINE_FEED)
         }
     }

@@ -3,7 +3,7 @@ use mathlib.Core.Path.{sym, ap}
 use mathlib.Core.List.{List}
 use Prim.Native.Nat.{ℕ}
 use native.Mathlib.Omega.{arith}
-use Rattle.meaning.specs.Text.{text}
+use Rattle.meaning.specs.Text.{text, decimal}
 use Rattle.meaning.specs.ReasonLine.{reason_line}
 use Rattle.encoding.proofs.Appending.{same_bytes, and_then}
 use Rattle.reasons.specs.declared.Reason.{Reason}
@@ -36,7 +36,8 @@ returns-in-TooFewTrips c =
 pub returns-in-UnevenIn : goal.returns-in-UnevenIn
 unfolding reason_line text
 returns-in-UnevenIn c =
-    let line = and_then (and_then c.put_uneven_start-at.ensures.appended c.put_decimal-at.ensures.appended) c.put-in-UnevenIn.ensures in
+    let line = and_then (and_then c.put_uneven_start-at.ensures.appended (same_bytes (ap decimal c.from.ensures) c.put_decimal-at.ensures.appended))
+    c.put-in-UnevenIn.ensures in
     let whole = same_bytes (ap line_of (sym c.in-UnevenIn.is)) line in
     record {
       appended = whole;

@@ -1,68 +1,28 @@
 -- The three reasons are tried in the order of the definition, each with the numbers that stand in the line.
-use mathlib.Core.Path.{◌≡◌, refl, sym, ap, ◌∙◌}
-use mathlib.Core.Option.{none, some}
-use Prim.Native.Nat.{ℕ}
+use Rattle.std.proofs.Common.{◌≡◌, ℕ, ap, ◌∙◌, rules, tests}
+use Rattle.std.specs.Array.Iter.{array_into_iter_items, array_steps}
+use Rattle.std.proofs.lemmas.Iterator.Consumers.{YieldsList-from_shown}
+use Rattle.std.proofs.lemmas.Iterator.Search.{find_from_yields_List}
+use Rattle.std.specs.List.{find}
 use Rattle.meaning.specs.Text.{text}
-use Rattle.meaning.specs.Reason.{holds_loop, too_few_trips, uneven_in}
 use Rattle.meaning.specs.ReasonLine.{number_at, read_reason}
-use Rattle.reasons.proofs.Answers.{exact_found, reads-choice, reads-few, reads-last}
+use Rattle.reasons.specs.View.{found_in}
+use Rattle.reasons.proofs.Answers.{exact_found, has-line, reads-first}
 use Rattle.reasons.proofs.reading.read_reason.Goals as goal
 
-pub returns-then-is_line : goal.returns-then-is_line
-unfolding text
-returns-then-is_line c =
-    let line = c.args.line.now in
-    let found : some (holds_loop c.number_at.result) ≡ read_reason line =
-    reads-choice line c.number_at.ensures refl refl (sym c.is_line.ensures ∙ c.if-is_line.true) in
-    record {
-      found = found;
-      exact = exact_found line found;
-    }
-
-pub returns-then-is_line-2 : goal.returns-then-is_line-2
-unfolding text
-returns-then-is_line-2 c =
-    let line = c.args.line.now in
-    let found : some (too_few_trips c.number_at-k.result) ≡ read_reason line =
-    reads-few line c.number_at.ensures c.number_at-k.ensures refl
-    (sym c.is_line.ensures ∙ c.if-is_line.false)
-    (sym c.is_line-2.ensures ∙ c.if-is_line-2.true) in
-    record {
-      found = found;
-      exact = exact_found line found;
-    }
-
--- where the last reason is tried
-module _ (c : goal.Then-is_line-3) where
-  found_last : some (uneven_in c.number_at-k.result c.number_at-2.result) ≡ read_reason c.args.line.now
+module _ (c : goal.After-drop-into_iter) where
+  found : found_in c.find.result ≡ read_reason c.args.line.now
   unfolding text
-  found_last =
+  found =
       let line = c.args.line.now in
-      reads-last line c.number_at.ensures c.number_at-k.ensures
+      reads-first line c.find.result c.number_at.ensures c.number_at-k.ensures
       (c.number_at-2.ensures ∙ ap (λ (n : ℕ). number_at n line) c.uneven_position.ensures)
-      (sym c.is_line.ensures ∙ c.if-is_line.false)
-      (sym c.is_line-2.ensures ∙ c.if-is_line-2.false)
-      (sym c.if-is_line-3.true ∙ c.is_line-3.ensures)
-
-pub returns-then-is_line-3 : goal.returns-then-is_line-3
-returns-then-is_line-3 c = record {
-  found = found_last c;
-  exact = exact_found c.args.line.now (found_last c);
-}
-
-module _ (c : goal.Else-is_line-3) where
-  found_none : none ≡ read_reason c.args.line.now
-  unfolding text
-  found_none =
-      let line = c.args.line.now in
-      reads-last line c.number_at.ensures c.number_at-k.ensures
-      (c.number_at-2.ensures ∙ ap (λ (n : ℕ). number_at n line) c.uneven_position.ensures)
-      (sym c.is_line.ensures ∙ c.if-is_line.false)
-      (sym c.is_line-2.ensures ∙ c.if-is_line-2.false)
-      (sym c.if-is_line-3.false ∙ c.is_line-3.ensures)
+      (find_from_yields_List (has-line line) _ _ c.find.result c.find.ensures.ran
+      (YieldsList-from_shown array_steps (λ x. x) array_into_iter_items (λ s t h. h.0) (λ s x t h. h) _) (λ x b q k. search (rules, tests))
+      ∙ ap (find (has-line line)) c.into_iter.ensures.into_iter_gives.0)
 
 pub returns : goal.returns
 returns c = record {
-  found = found_none c;
-  exact = exact_found c.args.line.now (found_none c);
+  found = found c;
+  exact = exact_found c.args.line.now (found c);
 }
