@@ -1,3 +1,4 @@
 pub mod Storing
 pub mod Reading
 pub mod EntryCosts
+pub mod Roles

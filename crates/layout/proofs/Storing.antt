@@ -3,17 +3,10 @@ use mathlib.Core.Path.{◌≡◌, refl, sym, ap, ap₂, ◌∙◌}
 use mathlib.Core.List.{List, [], ◌∷◌, ◌++◌, append_assoc, append-nil}
 use Prim.Native.Nat.{ℕ, zero, suc, ◌+◌, ◌*◌, ◌<◌, ◌%◌}
 use native.Mathlib.Nat.{suc-mul, mul-le-mul_right, mod-eq_of_lt}
-use native.Mathlib.Numerals.{add-one}
 use native.Mathlib.Omega.{arith}
 use lib.ListN.{length, get_or, take, drop, set, length-append, get_or-append}
-use lib.Seq.{paste, paste-suc, take_at, take_all, drop-append-add, get_or-append-add, drop-drop}
+use lib.Seq.{paste, paste-zero, paste-suc, take_at, take_all, drop-append-add, get_or-append-add, drop-drop}
 use Rattle.layout.specs.Numbers.{joined, stored_in}
-
--- a copy's next number
-pub paste_more : (numbers : List ℕ) (at : ℕ) (values stored : List ℕ) (i : ℕ) → stored ≡ paste numbers at values i → at + i < length numbers → i < length values →
-    set stored (at + i) (get_or values i 0) ≡ paste numbers at values (i + 1)
-paste_more numbers at values stored i e room more =
-    ap (λ (x : List ℕ). set x (at + i) (get_or values i 0)) e ∙ paste-suc numbers at values i 0 room more ∙ ap (paste numbers at values) (sym (add-one i))
 
 -- numbers stored behind those stored before
 pub stored_more : (before numbers values : List ℕ) (at n : ℕ) → at ≡ length numbers → n ≡ length values →
@@ -84,3 +77,9 @@ module _ {A : Type 0} (numbers : A → List ℕ) where
           stored_more before (joined numbers xs) values (k % limit * width) width
           (ap (λ (m : ℕ). m * width) (mod-eq_of_lt below ∙ a) ∙ sym (joined_length xs)) (sym (wide x) ∙ ap length (sym v))
           ∙ ap (stored_in before) (ap (λ (l : List ℕ). joined numbers xs ++ l) (v ∙ sym (joined-one x)) ∙ sym (joined-append xs (x ∷ [])))
+
+-- a number that is written is one that is pasted
+pub set_paste : (numbers : List ℕ) (i n : ℕ) → i < length numbers → set numbers i n ≡ paste numbers i (n ∷ []) 1
+set_paste numbers i n h =
+    ap₂ (λ (xs : List ℕ) (m : ℕ). set xs m n) (paste-zero numbers i (n ∷ [])) (let e : i ≡ i + 0 = omega arith in e)
+    ∙ paste-suc numbers i (n ∷ []) 0 0 (omega arith) (omega arith)

@@ -1,20 +1,41 @@
 -- Rows: what the reader says of each record, as numbers, and the numbers read by position.
-use Rattle.std.specs.Prelude.{List, [], ◌∷◌, ℕ, zero, suc, ◌+◌, ◌*◌, ◌-◌, ◌/◌, ◌%◌, min, get_or}
+use Rattle.std.specs.Prelude.{List, [], ◌∷◌, ℕ, zero, suc, ◌+◌, ◌*◌, ◌-◌, ◌/◌, ◌%◌, min, cond, eqb, get_or}
 use Rattle.meaning.specs.Limits.{record_limit, depth_limit, open_limit}
 use Rattle.meaning.specs.Record.{Kind, work_kind, loop_kind, end_kind, choice_kind, next_arm_kind, skip_cycles, Record, work_record, loop_record, end_record, choice_record, next_arm_record, kind}
 use Rattle.layout.specs.declared.rows.Row.{Row}
+pub use Rattle.layout.specs.declared.rows.Role.{Role}
+use Rattle.layout.specs.declared.rows.Role.TheVariants as roles
 use Rattle.layout.specs.Loops.{loop_limit}
 
 -- what a record is for the stages
-pub data Role : Type 0 where
-  straight_role loop_role end_role choice_role next_arm_role : Role
+abbrev pub straight_role : Role
+straight_role = roles.Straight
+
+abbrev pub loop_role : Role
+loop_role = roles.Loop
+
+abbrev pub end_role : Role
+end_role = roles.End
+
+abbrev pub choice_role : Role
+choice_role = roles.Choice
+
+abbrev pub next_arm_role : Role
+next_arm_role = roles.NextArm
 
 unfoldable pub role_number : Role → ℕ
-role_number straight_role = 0
-role_number loop_role = 1
-role_number end_role = 2
-role_number choice_role = 3
-role_number next_arm_role = 4
+role_number roles.Straight = 0
+role_number roles.Loop = 1
+role_number roles.End = 2
+role_number roles.Choice = 3
+role_number roles.NextArm = 4
+role_number roles.Unknown = 5
+
+-- the role that a number stands for; other numbers are in no sheet's plan
+unfoldable pub role_named : ℕ → Role
+role_named n =
+    cond (eqb n 0) roles.Straight
+    (cond (eqb n 1) roles.Loop (cond (eqb n 2) roles.End (cond (eqb n 3) roles.Choice (cond (eqb n 4) roles.NextArm roles.Unknown))))
 
 -- the role of a kind's records
 unfoldable pub role_of_kind : Kind → Role
@@ -58,7 +79,7 @@ row_width = 6
 abbrev pub rows_length : ℕ
 rows_length = record_limit * row_width
 
--- the room of a record's number and of a number of loops, of one more than a record's number, of an offset and of a role: what a remainder cuts off
+-- the room of a record's number and of a number of loops, of one more than a record's number, and of an offset: what a remainder cuts off
 -- stands in no sheet
 abbrev pub number_room : ℕ
 number_room = record_limit
@@ -68,9 +89,6 @@ around_room = 512
 
 abbrev pub offset_room : ℕ
 offset_room = 4096
-
-abbrev pub role_room : ℕ
-role_room = 16
 
 -- the end and the record that it stands in
 unfoldable pub end_numbers : Row → ℕ
@@ -82,7 +100,7 @@ depth_numbers r = r.loops % number_room + number_room * (r.frame % open_limit + 
 
 -- the offset and the role
 unfoldable pub place_numbers : Row → ℕ
-place_numbers r = r.offset % offset_room + offset_room * (r.role % role_room)
+place_numbers r = r.offset % offset_room + offset_room * role_number r.role
 
 unfoldable pub row_numbers : Row → List ℕ
 row_numbers r = r.first ∷ r.second ∷ r.skip ∷ end_numbers r ∷ depth_numbers r ∷ place_numbers r ∷ []

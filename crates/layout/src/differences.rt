@@ -1,7 +1,9 @@
 // Differences: of each loop the size of its stride, its D where every counter is 0, and what a trip of each loop around it adds to D, in two's complement.
-ghost use Rattle.std.specs.Prelude.{◌≡◌, ◌+◌, ◌<◌, ◌≤◌, length};
+#![tactic(auto, unfolding(crate::specs::Loops::word_in))]
+
+ghost use Rattle.std.specs.Prelude.{◌≡◌, ◌<◌};
 ghost use Rattle.std.proofs.Math.Seq.{paste};
-ghost use Rattle.layout.specs.Loops.{difference_width, difference_from, word_in, stride_at, base_at, push_word_at};
+ghost use Rattle.layout.specs.Loops.{difference_width, difference_from, stride_at, base_at, push_word_at};
 ghost use Rattle.meaning.specs.Limits.{index_factors};
 
 use crate::MAX_LOOPS;
@@ -23,45 +25,33 @@ pub const DIFFERENCE_WORDS: usize = MAX_LOOPS * DIFFERENCE_WIDTH;
 
 pub type Differences = [u64; DIFFERENCE_WORDS];
 
-// One word of a loop.
-fn word(differences: &Differences, number: usize, column: usize) -> u64
-    requires { column < difference_width }
-    ensures { result ≡ word_in differences.now number column }
+// Where the words of a loop begin. Stays beside `fact_from` and `row_from`, since a call of one function with both constants is longer than this product.
+fn difference_from(number: usize) -> usize
+    ensures { result ≡ difference_from number }
 {
-    differences[number % MAX_LOOPS * DIFFERENCE_WIDTH + column]
-}
-
-// Stores words from a position on.
-fn put_words(words: &mut [u64], at: usize, values: &[u64])
-    requires { at + length values.now ≤ length words.old }
-    ensures { words.new ≡ paste words.old at values.now (length values.now) }
-{
-    let mut i: usize = 0;
-    while i < values.len() {
-        words[at + i] = values[i];
-        i += 1;
-    }
+    number % MAX_LOOPS * DIFFERENCE_WIDTH
 }
 
 // Stores the words of a loop.
 pub fn put_difference(differences: &mut Differences, number: usize, words: [u64; DIFFERENCE_WIDTH])
     ensures { differences.new ≡ paste differences.old (difference_from number) words difference_width }
 {
-    put_words(differences, number % MAX_LOOPS * DIFFERENCE_WIDTH, &words);
+    let from = difference_from(number);
+    differences[from..from + DIFFERENCE_WIDTH].copy_from_slice(&words);
 }
 
 // The stride's size.
 pub fn stride_at(differences: &Differences, number: usize) -> u64
     ensures { result ≡ stride_at differences.now number }
 {
-    word(differences, number, STRIDE)
+    differences[difference_from(number) + STRIDE]
 }
 
 // D where every counter is 0.
 pub fn base_at(differences: &Differences, number: usize) -> u64
     ensures { result ≡ base_at differences.now number }
 {
-    word(differences, number, BASE)
+    differences[difference_from(number) + BASE]
 }
 
 // What a trip of the loop that has m loops around it adds to D.
@@ -69,5 +59,5 @@ pub fn push_at(differences: &Differences, number: usize, m: usize) -> u64
     requires { m < index_factors }
     ensures { result ≡ push_word_at differences.now number m }
 {
-    word(differences, number, PUSHES + m)
+    differences[difference_from(number) + PUSHES + m]
 }

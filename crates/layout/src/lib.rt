@@ -7,18 +7,44 @@ pub mod facts;
 pub mod limits;
 pub mod rows;
 
-ghost use Rattle.std.specs.Prelude.{◌≡◌, ◌+◌, ◌≤◌, ◌%◌, ◌^◌, length};
-ghost use Rattle.std.proofs.Math.Seq.{paste};
+ghost use Rattle.std.specs.Prelude.{◌≡◌, ◌%◌, ◌^◌, replicate};
+ghost use Rattle.layout.specs.Loops.{differences_length, facts_length, limits_length};
+ghost use Rattle.layout.specs.Rows.{rows_length};
 
+use crate::differences::{DIFFERENCE_WORDS, Differences};
+use crate::facts::{FACT_NUMBERS, Facts};
+use crate::limits::{LIMIT_NUMBERS, Limits};
+use crate::rows::{ROW_NUMBERS, Rows};
 use records::MAX_RECORDS;
 
 // Each loop has an end, so that at most half of the records are loops.
 pub const MAX_LOOPS: usize = MAX_RECORDS / 2;
 
-fn wide(number: u16) -> u64
-    ensures { result ≡ number }
-{
-    number as u64
+// All that a plan holds. Stays packed in arrays of numbers, since a call has no heap and the header promises how much stack it takes.
+#[derive(Drop)]
+pub struct PlanArrays {
+    pub rows: Rows,
+    pub differences: Differences,
+    pub facts: Facts,
+    pub limits: Limits,
+}
+
+impl PlanArrays {
+    // Before any plan.
+    #[inline]
+    pub fn blank() -> PlanArrays
+        ensures rows { result.rows ≡ replicate rows_length 0 }
+        ensures differences { result.differences ≡ replicate differences_length 0 }
+        ensures facts { result.facts ≡ replicate facts_length 0 }
+        ensures limits { result.limits ≡ replicate limits_length 0 }
+    {
+        PlanArrays {
+            rows: [0; ROW_NUMBERS],
+            differences: [0; DIFFERENCE_WORDS],
+            facts: [0; FACT_NUMBERS],
+            limits: [0; LIMIT_NUMBERS],
+        }
+    }
 }
 
 // The last 16 bits, which are all that a number of a row or a limit has.
@@ -26,22 +52,4 @@ pub fn narrow(number: usize) -> u16
     ensures { result ≡ number % 2 ^ 16 }
 {
     (number % 65536) as u16
-}
-
-fn position(number: u16) -> usize
-    ensures { result ≡ number }
-{
-    number as usize
-}
-
-// Stores numbers from a position on.
-fn put(numbers: &mut [u16], at: usize, values: &[u16])
-    requires { at + length values.now ≤ length numbers.old }
-    ensures { numbers.new ≡ paste numbers.old at values.now (length values.now) }
-{
-    let mut i: usize = 0;
-    while i < values.len() {
-        numbers[at + i] = values[i];
-        i += 1;
-    }
 }

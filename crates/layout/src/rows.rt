@@ -1,31 +1,51 @@
 // Rows: what the reader says of each record, six numbers a record. Small ones share a number, since a call makes all rows anew.
-ghost use Rattle.std.specs.Prelude.{◌≡◌, ◌<◌, min};
-ghost use Rattle.std.proofs.Math.Seq.{paste};
-ghost use Rattle.meaning.specs.Limits.{depth_limit};
-ghost use Rattle.layout.specs.Rows.{row_width, row_from, row_numbers, number_in};
-ghost use Rattle.layout.specs.Rows.{role_at, first_at, second_at, entry_cost_at, end_at, after_end_at, enclosing_at, opener_at, frame_at, depth_at, loops_before_at, loop_at, offset_at};
+#![tactic(auto, unfolding(crate::specs::Rows::number_in))]
 
-use crate::{MAX_LOOPS, position, put, wide};
+ghost use Rattle.std.specs.Prelude.{◌≡◌};
+ghost use Rattle.std.proofs.Math.Seq.{paste};
+ghost use Rattle.layout.specs.Rows.{row_width, row_from, row_numbers};
+ghost use Rattle.layout.specs.Rows.{role_named, role_at, first_at, second_at, entry_cost_at, end_at, after_end_at, enclosing_at, opener_at, frame_at, depth_at, loops_before_at, loop_at, offset_at};
+
+use crate::MAX_LOOPS;
 use form::MAX_DEPTH;
 use records::{MAX_OPEN, MAX_RECORDS};
 
-// What a record is for the stages: its role.
-pub const STRAIGHT: u16 = 0;
+// What a record is for the stages: its role. Arrays may hold any numbers: one that stands for no role is unknown, and stands in no plan.
+#[derive(Clone, Copy, PartialEq, Eq)]
+pub enum Role {
+    Straight,
+    Loop,
+    End,
+    Choice,
+    NextArm,
+    Unknown,
+}
 
-pub const LOOP: u16 = 1;
+impl Role {
+    ghost use Rattle.layout.specs.Rows.{role_named};
 
-pub const END: u16 = 2;
-
-pub const CHOICE: u16 = 3;
-
-pub const NEXT_ARM: u16 = 4;
+    // The role that a number stands for.
+    #[tactic(auto, unfolding(crate::specs::Rows::role_named))]
+    fn of(number: u16) -> Role
+        ensures { result ≡ role_named number }
+    {
+        match number {
+            0 => Role::Straight,
+            1 => Role::Loop,
+            2 => Role::End,
+            3 => Role::Choice,
+            4 => Role::NextArm,
+            _ => Role::Unknown,
+        }
+    }
+}
 
 // Of one record: its role; its costs, least and most of straight work or start and step of a loop; the number of its end; the number of
 // the record that it stands in, plus 1; how many records are open around it, and how many of these are loops; how many loops stand
 // before it; its offset in the sheet; what a loop costs where it makes no trip.
 #[derive(Clone, Copy)]
 pub struct Row {
-    pub role: u16,
+    pub role: Role,
     pub first: u16,
     pub second: u16,
     pub end: u16,
@@ -63,86 +83,77 @@ const FRAMES: u16 = MAX_OPEN as u16;
 
 const OFFSETS: u16 = 4096;
 
-const ROLES: u16 = 16;
-
 const DEEPEST: u16 = MAX_DEPTH as u16;
 
 pub const ROW_NUMBERS: usize = MAX_RECORDS * ROW_WIDTH;
 
 pub type Rows = [u16; ROW_NUMBERS];
 
-// One number of a record's row.
-fn column_at(rows: &Rows, number: usize, column: usize) -> u16
-    requires { column < row_width }
-    ensures { result ≡ number_in rows.now number column }
+// Where a record's row begins. Stays beside `difference_from` and `fact_from`, since a call of one function with both constants is longer than this product.
+fn row_from(number: usize) -> usize
+    ensures { result ≡ row_from number }
 {
-    rows[number % MAX_RECORDS * ROW_WIDTH + column]
-}
-
-fn at_most_deepest(depth: u16) -> u16
-    ensures { result ≡ min depth depth_limit }
-{
-    if depth < DEEPEST { depth } else { DEEPEST }
+    number % MAX_RECORDS * ROW_WIDTH
 }
 
 // Stores a record's row. What the remainders cut off stands in no sheet.
+#[tactic(auto, unfolding(crate::specs::Rows::row_numbers, crate::specs::Rows::end_numbers, crate::specs::Rows::depth_numbers, crate::specs::Rows::place_numbers, crate::specs::Rows::role_number))]
 pub fn put_row(rows: &mut Rows, number: usize, row: Row)
     ensures { rows.new ≡ paste rows.old (row_from number) (row_numbers row) row_width }
 {
-    let depth = at_most_deepest(row.depth);
+    let depth = row.depth.min(DEEPEST);
     let values = [
         row.first,
         row.second,
         row.skip,
         row.end % NUMBERS + NUMBERS * (row.enclosing % AROUND),
         row.loops % NUMBERS + NUMBERS * (row.frame % FRAMES + FRAMES * depth),
-        row.offset % OFFSETS + OFFSETS * (row.role % ROLES),
+        row.offset % OFFSETS + OFFSETS * row.role as u16,
     ];
-    put(rows, number % MAX_RECORDS * ROW_WIDTH, &values);
+    let from = row_from(number);
+    rows[from..from + ROW_WIDTH].copy_from_slice(&values);
 }
 
-pub fn role_at(rows: &Rows, number: usize) -> u16
-    ensures { result ≡ role_at rows.now number }
+pub fn role_at(rows: &Rows, number: usize) -> Role
+    ensures { result ≡ role_named (role_at rows.now number) }
 {
-    column_at(rows, number, PLACE) / OFFSETS
+    Role::of(rows[row_from(number) + PLACE] / OFFSETS)
 }
 
 // The least of straight work.
 pub fn least_at(rows: &Rows, number: usize) -> u64
     ensures { result ≡ first_at rows.now number }
 {
-    wide(column_at(rows, number, FIRST))
+    u64::from(rows[row_from(number) + FIRST])
 }
 
 // The most of straight work.
 pub fn most_at(rows: &Rows, number: usize) -> u64
     ensures { result ≡ second_at rows.now number }
 {
-    wide(column_at(rows, number, SECOND))
+    u64::from(rows[row_from(number) + SECOND])
 }
 
 // What entering a loop costs, where it makes so many trips.
 pub fn entry_cost_at(rows: &Rows, number: usize, trips: u64) -> u64
     ensures { result ≡ entry_cost_at rows.now number trips }
 {
-    if trips == 0 {
-        return wide(column_at(rows, number, SKIP));
-    }
-    wide(column_at(rows, number, FIRST))
+    let column = if trips == 0 { SKIP } else { FIRST };
+    u64::from(rows[row_from(number) + column])
 }
 
 // The step of a loop.
 pub fn step_at(rows: &Rows, number: usize) -> u64
     ensures { result ≡ second_at rows.now number }
 {
-    wide(column_at(rows, number, SECOND))
+    u64::from(rows[row_from(number) + SECOND])
 }
 
 // The number of the end of a loop or choice.
 pub fn end_at(rows: &Rows, number: usize) -> usize
     ensures { result ≡ end_at rows.now number }
 {
-    position(column_at(rows, number, ENDING)) % MAX_RECORDS
+    usize::from(rows[row_from(number) + ENDING]) % MAX_RECORDS
 }
 
 // What follows the end of a loop.
@@ -156,40 +167,35 @@ pub fn after_end_at(rows: &Rows, number: usize) -> usize
 pub fn enclosing_at(rows: &Rows, number: usize) -> u16
     ensures { result ≡ enclosing_at rows.now number }
 {
-    column_at(rows, number, ENDING) / NUMBERS
+    rows[row_from(number) + ENDING] / NUMBERS
 }
 
 // The loop or choice that an end ends, and that a next arm belongs to.
 pub fn opener_at(rows: &Rows, number: usize) -> usize
     ensures { result ≡ opener_at rows.now number }
 {
-    let enclosing = position(enclosing_at(rows, number));
-    if enclosing == 0 {
-        return 0;
-    }
-    (enclosing - 1) % MAX_RECORDS
+    usize::from(enclosing_at(rows, number)).saturating_sub(1) % MAX_RECORDS
 }
 
 // The frame of a loop or choice: one for each record open around it.
 pub fn frame_at(rows: &Rows, number: usize) -> usize
     ensures { result ≡ frame_at rows.now number }
 {
-    position(column_at(rows, number, DEPTH) / NUMBERS) % MAX_OPEN
+    usize::from(rows[row_from(number) + DEPTH] / NUMBERS) % MAX_OPEN
 }
 
 // How many loops are open around a record.
 pub fn depth_at(rows: &Rows, number: usize) -> usize
     ensures { result ≡ depth_at rows.now number }
 {
-    let depth = position(column_at(rows, number, DEPTH) / (NUMBERS * FRAMES));
-    if depth < MAX_DEPTH { depth } else { MAX_DEPTH }
+    usize::from(rows[row_from(number) + DEPTH] / (NUMBERS * FRAMES)).min(MAX_DEPTH)
 }
 
 // How many loops stand before a record.
 pub fn loops_before_at(rows: &Rows, number: usize) -> usize
     ensures { result ≡ loops_before_at rows.now number }
 {
-    position(column_at(rows, number, DEPTH) % NUMBERS)
+    usize::from(rows[row_from(number) + DEPTH] % NUMBERS)
 }
 
 // The number of a loop among the loops.
@@ -203,11 +209,11 @@ pub fn loop_at(rows: &Rows, number: usize) -> usize
 pub fn place_at(rows: &Rows, number: usize) -> u16
     ensures { result ≡ offset_at rows.now number }
 {
-    column_at(rows, number, PLACE) % OFFSETS
+    rows[row_from(number) + PLACE] % OFFSETS
 }
 
 pub fn offset_at(rows: &Rows, number: usize) -> usize
     ensures { result ≡ offset_at rows.now number }
 {
-    position(place_at(rows, number))
+    usize::from(place_at(rows, number))
 }
