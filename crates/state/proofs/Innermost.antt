@@ -1,15 +1,19 @@
--- What the steps do to the innermost open record's frame, counter and kept trips, which stand behind those around it, with zeros after them.
-use Rattle.std.proofs.Common.{◌≡◌, ℕ, zero, suc, ◌+◌, ◌-◌, ◌*◌, ◌<◌, ◌≤◌, min, max, List, [], ◌∷◌, ◌++◌, length, get_or, take, drop, set, replicate, sym, refl, ap, ◌∙◌, ap₂, append_assoc, arith, length-append, length-take, drop-cons, get_or-take, take_at, get_or-append-add, drop_at}
+-- What the steps on the open loops and records make of the innermost one, which stands behind the others.
+use Rattle.std.proofs.Common.{◌≡◌, ℕ, zero, suc, ◌+◌, ◌-◌, ◌%◌, ◌<◌, ◌≤◌, List, [], ◌∷◌, ◌++◌, Option, None, Some, length, get_or, take, drop, set, replicate, sym, refl, ap, ◌∙◌, append_assoc, arith}
+use Rattle.std.proofs.Common.{length-append, length-take, get_or-take, get_or-append-add, drop_at, take_at}
 use lib.ListN.{length-replicate, replicate-append-replicate}
 use Rattle.meaning.specs.Limits.{depth_limit, open_limit}
-use Rattle.state.specs.Open.{counter_part, frame_part, kept_part, frame_width, part_length, with_pair, blanked, filled}
-use Rattle.state.specs.Sums.{wrapped_sum, least_of, most_of, with_sums}
-use Rattle.state.specs.Frames.{frame_from, around_column, passed_column, arm_column, frame_number, with_bounds}
-use Rattle.state.specs.Frames.{frame_opened, frame_left, sums_around, passed_around, arm_joins, arm_passed, trip_passed}
+use Rattle.state.specs.declared.bounds.Bounds.{Bounds}
+use Rattle.state.specs.declared.open.Frame.{Frame}
+use Rattle.state.specs.declared.sums.Sums.{Sums}
+use Rattle.state.specs.Bounds.{no_bounds, plus}
+use Rattle.state.specs.Open.{kept_limit, blanked, filled, blank_frame}
+use Rattle.state.specs.Sums.{with_sums}
+use Rattle.state.specs.Frames.{frame_with, arm_joins, all_passed, frame_in, with_frame, frame_opened, frame_left, sums_around, passed_around, arm_passed, trip_passed}
 use Rattle.state.specs.Kept.{kept_room, kept_from, trip_kept, forgotten}
 use Rattle.state.proofs.KeptLaws.{room_within}
 
--- ---- numbers behind others
+-- ---- elements behind others
 
 module _ {A : Type 0} (xs ys : List A) where
   -- element j of what follows
@@ -25,241 +29,208 @@ set-append {A} (x ∷ xs) ys j v =
 pub set-behind : {A : Type 0} (xs ys : List A) (n j : ℕ) (v : A) → n ≡ length xs + j → set (xs ++ ys) n v ≡ xs ++ set ys j v
 set-behind xs ys n j v e = ap (λ (m : ℕ). set (xs ++ ys) m v) e ∙ set-append xs ys j v
 
-pub pair-behind : (xs ys : List ℕ) (n j least most : ℕ) → n ≡ length xs + j → with_pair (xs ++ ys) n least most ≡ xs ++ with_pair ys j least most
-unfolding with_pair
-pair-behind xs ys n j least most e =
-    ap (λ (zs : List ℕ). set zs (n + 1) most) (set-behind xs ys n j least e) ∙ set-behind xs (set ys j least) (n + 1) (j + 1) most (omega arith)
-
-abbrev pub zeros : ℕ → List ℕ
-zeros n = replicate n 0
-
--- numbers behind others become 0
-pub blanked-behind : (xs ys : List ℕ) (from n : ℕ) → from ≡ length xs → n ≤ length ys → blanked (xs ++ ys) from n ≡ xs ++ (zeros n ++ drop n ys)
+-- elements behind others become blank
+pub blanked-behind : {A : Type 0} (blank : A) (xs ys : List A) (from n : ℕ) → from ≡ length xs → blanked blank (xs ++ ys) from n ≡ xs ++ (replicate n blank ++ drop n ys)
 unfolding blanked
-blanked-behind xs ys from zero e h = refl
-blanked-behind xs ys from (suc n) e h =
-    ap (λ zs. set zs (from + n) 0) (blanked-behind xs ys from n e (omega arith))
-    ∙ set-behind xs (zeros n ++ drop n ys) (from + n) n 0 (omega arith)
-    ∙ ap (λ zs. xs ++ zs)
-    (set-behind (zeros n) (drop n ys) n 0 0 (omega (arith, length-replicate n zero))
-    ∙ ap (λ zs. zeros n ++ set zs 0 0) (drop-cons ys n 0 (omega arith)) ∙ shift n (drop (suc n) ys))
-  where
-    shift : (n : ℕ) (zs : List ℕ) → zeros n ++ (0 ∷ zs) ≡ zeros (suc n) ++ zs
-    shift zero zs = refl
-    shift (suc n) zs = ap {B = List ℕ} (λ us. 0 ∷ us) (shift n zs)
+blanked-behind blank xs ys from n e = λ i. take_at xs ys from (sym e) i ++ (replicate n blank ++ drop n (drop_at xs ys from (sym e) i))
 
--- ---- lists filled with zeros
+-- ---- lists filled with blank elements
 
-pub joined-zeros : (m n k : ℕ) → k ≡ m + n → zeros m ++ zeros n ≡ zeros k
-joined-zeros m n k e = replicate-append-replicate m n 0 ∙ ap zeros (sym e)
+module _ {A : Type 0} (blank : A) where
+  pub joined-blanks : (m n k : ℕ) → k ≡ m + n → replicate m blank ++ replicate n blank ≡ replicate k blank
+  joined-blanks m n k e = replicate-append-replicate m n blank ∙ ap (λ (i : ℕ). replicate i blank) (sym e)
 
-pub filled-length : (n : ℕ) (xs : List ℕ) → length (filled n xs) ≡ n
-unfolding filled
-filled-length n xs = length-take n (xs ++ zeros n) ∙ (let k = length-append xs (zeros n) in let z = length-replicate n zero in omega arith)
+  pub filled-length : (n : ℕ) (xs : List A) → length (filled blank n xs) ≡ n
+  unfolding filled
+  filled-length n xs =
+      length-take n (xs ++ replicate n blank) ∙ (let k = length-append xs (replicate n blank) in let z = length-replicate n blank in omega arith)
 
--- a short list is filled
-pub filled-short : (n m : ℕ) (xs : List ℕ) → length xs + m ≡ n → filled n xs ≡ xs ++ zeros m
-unfolding filled
-filled-short n m xs e =
-    ap (λ ys. take n (xs ++ ys)) (sym (joined-zeros m (length xs) n (omega arith))) ∙ ap (take n) (sym (append_assoc xs (zeros m) (zeros (length xs))))
-    ∙ take_at (xs ++ zeros m) (zeros (length xs)) n (let k = length-append xs (zeros m) in let z = length-replicate m zero in omega arith)
+  -- a short list is filled
+  pub filled-short : (n m : ℕ) (xs : List A) → length xs + m ≡ n → filled blank n xs ≡ xs ++ replicate m blank
+  unfolding filled
+  filled-short n m xs e =
+      ap (λ ys. take n (xs ++ ys)) (sym (joined-blanks m (length xs) n (omega arith)))
+      ∙ ap (take n) (sym (append_assoc xs (replicate m blank) (replicate (length xs) blank)))
+      ∙ take_at (xs ++ replicate m blank) (replicate (length xs) blank) n
+      (let k = length-append xs (replicate m blank) in let z = length-replicate m blank in omega arith)
 
--- a number of a filled list
-pub filled_at : (n : ℕ) (xs : List ℕ) (i : ℕ) → i < n → get_or (filled n xs) i 0 ≡ get_or xs i 0
-unfolding filled
-filled_at n xs i h = get_or-take n (xs ++ zeros n) i 0 h ∙ extended xs n i
-  where
-    blank : (n i : ℕ) → get_or (zeros n) i 0 ≡ 0
-    blank zero i = refl
-    blank (suc n) zero = refl
-    blank (suc n) (suc i) = blank n i
+  -- an element of a filled list
+  pub filled_at : (n : ℕ) (xs : List A) (i : ℕ) → i < n → get_or (filled blank n xs) i blank ≡ get_or xs i blank
+  unfolding filled
+  filled_at n xs i h = get_or-take n (xs ++ replicate n blank) i blank h ∙ extended xs n i
+    where
+      none : (n i : ℕ) → get_or (replicate n blank) i blank ≡ blank
+      none zero i = refl
+      none (suc n) zero = refl
+      none (suc n) (suc i) = none n i
 
-    extended : (xs : List ℕ) (n i : ℕ) → get_or (xs ++ zeros n) i 0 ≡ get_or xs i 0
-    extended [] n i = blank n i
-    extended (x ∷ xs) n zero = refl
-    extended (x ∷ xs) n (suc i) = extended xs n i
+      extended : (xs : List A) (n i : ℕ) → get_or (xs ++ replicate n blank) i blank ≡ get_or xs i blank
+      extended [] n i = none n i
+      extended (x ∷ xs) n zero = refl
+      extended (x ∷ xs) n (suc i) = extended xs n i
 
--- ---- frames: the numbers of one, behind those of the frames around it
+  -- one element, behind others, of a filled list
+  module _ (n : ℕ) (xs : List A) (place : ℕ) (behind : length xs ≡ place) (room : place < n) where
+    -- it and what is left
+    pub filled-top : (x : A) → filled blank n (xs ++ (x ∷ [])) ≡ xs ++ (x ∷ replicate (n - suc place) blank)
+    filled-top x =
+        filled-short n (n - suc place) (xs ++ (x ∷ [])) (omega (arith, length-append xs (x ∷ [])))
+        ∙ append_assoc xs (x ∷ []) (replicate (n - suc place) blank)
 
-abbrev pub all_frames : List ℕ → List ℕ
-all_frames = filled (part_length frame_part)
+    -- a blank one is none
+    pub top-blank : filled blank n (xs ++ (blank ∷ [])) ≡ filled blank n xs
+    top-blank =
+        let more : suc (n - suc place) ≡ n - place = omega arith in
+        filled-top blank ∙ ap (λ (m : ℕ). xs ++ replicate m blank) more ∙ sym (filled-short n (n - place) xs (omega arith))
 
-module _ (xs : List ℕ) (frame : ℕ) (behind : length xs ≡ frame * frame_width) (room : frame < open_limit) where
-  abbrev rest : List ℕ
-  rest = zeros (part_length frame_part - suc frame * frame_width)
+    pub top-read : (x : A) → get_or (filled blank n (xs ++ (x ∷ []))) place blank ≡ x
+    top-read x =
+        ap (λ ys. get_or ys place blank) (filled-top x) ∙ get_d-behind xs (x ∷ replicate (n - suc place) blank) place 0 blank (omega arith)
 
-  number_behind : (ys : List ℕ) (column : ℕ) → frame_number (xs ++ ys) frame column ≡ get_or ys column 0
-  unfolding frame_number
-  number_behind ys column = get_d-behind xs ys (frame_from frame + column) column 0 (omega arith)
+    pub top-set : (x y : A) → set (filled blank n (xs ++ (x ∷ []))) place y ≡ filled blank n (xs ++ (y ∷ []))
+    top-set x y =
+        ap (λ ys. set ys place y) (filled-top x) ∙ set-behind xs (x ∷ replicate (n - suc place) blank) place 0 y (omega arith)
+        ∙ sym (filled-top y)
 
-  bounds-behind : (ys : List ℕ) (column least most : ℕ) → with_bounds (xs ++ ys) frame column least most ≡ xs ++ with_pair ys column least most
-  unfolding with_bounds
-  bounds-behind ys column least most = pair-behind xs ys (frame_from frame + column) column least most (omega arith)
+-- ---- frames: that of the innermost open record, behind those of the records around it
 
-  -- the frames with one more, and with none in its place
-  frames-top : (a b c d e : ℕ) → all_frames (xs ++ (a ∷ b ∷ c ∷ d ∷ e ∷ [])) ≡ xs ++ (a ∷ b ∷ c ∷ d ∷ e ∷ rest)
-  frames-top a b c d e =
-      let top : List ℕ = a ∷ b ∷ c ∷ d ∷ e ∷ [] in
-      filled-short (part_length frame_part) (part_length frame_part - suc frame * frame_width) (xs ++ top) (omega (arith, length-append xs top))
-      ∙ append_assoc xs top rest
+abbrev pub all_frames : List Frame → List Frame
+all_frames = filled blank_frame open_limit
 
-  frames-next : all_frames xs ≡ xs ++ (0 ∷ 0 ∷ 0 ∷ 0 ∷ 0 ∷ rest)
-  frames-next =
-      let n : ℕ = part_length frame_part - suc frame * frame_width in
-      let more : part_length frame_part - frame * frame_width ≡ suc (suc (suc (suc (suc n)))) = omega arith in
-      filled-short (part_length frame_part) (part_length frame_part - frame * frame_width) xs (omega arith) ∙ ap (λ (m : ℕ). xs ++ zeros m) more
+module _ (xs : List Frame) (number : ℕ) (behind : length xs ≡ number) (room : number < open_limit) where
+  frame-read : (f : Frame) → frame_in (all_frames (xs ++ (f ∷ []))) number ≡ f
+  frame-read f =
+      let e : number % open_limit ≡ number = omega arith in
+      ap (λ (n : ℕ). get_or (all_frames (xs ++ (f ∷ []))) n blank_frame) e ∙ top-read blank_frame open_limit xs number behind room f
 
-  pub frame-opened : (sums : List ℕ) → frame_opened (all_frames xs) frame sums ≡ all_frames (xs ++ (least_of sums ∷ most_of sums ∷ 0 ∷ 0 ∷ 0 ∷ []))
-  unfolding frame_opened with_pair
-  frame-opened sums =
-      ap (λ fs. frame_opened fs frame sums) frames-next ∙ bounds-behind (0 ∷ 0 ∷ 0 ∷ 0 ∷ 0 ∷ rest) around_column (least_of sums) (most_of sums)
-      ∙ sym (frames-top (least_of sums) (most_of sums) 0 0 0)
+  frame-set : (f g : Frame) → with_frame (all_frames (xs ++ (f ∷ []))) number g ≡ all_frames (xs ++ (g ∷ []))
+  frame-set f g =
+      let e : number % open_limit ≡ number = omega arith in
+      ap (λ (n : ℕ). set (all_frames (xs ++ (f ∷ []))) n g) e ∙ top-set blank_frame open_limit xs number behind room f g
 
-  module _ (a b c d : ℕ) where
-    abbrev with_top : ℕ → List ℕ
-    with_top e = all_frames (xs ++ (a ∷ b ∷ c ∷ d ∷ e ∷ []))
+  frame-none : all_frames (xs ++ (blank_frame ∷ [])) ≡ all_frames xs
+  frame-none = top-blank blank_frame open_limit xs number behind room
 
-    passed-top : (e least most : ℕ) → with_bounds (with_top e) frame passed_column least most ≡ all_frames (xs ++ (a ∷ b ∷ least ∷ most ∷ e ∷ []))
-    unfolding with_pair
-    passed-top e least most =
-        ap (λ fs. with_bounds fs frame passed_column least most) (frames-top a b c d e) ∙ bounds-behind (a ∷ b ∷ c ∷ d ∷ e ∷ rest) passed_column least most
-        ∙ sym (frames-top a b least most e)
+  pub frame-opened : (around : Bounds) → frame_opened (all_frames xs) number around ≡ all_frames (xs ++ (frame_with around None ∷ []))
+  unfolding frame_opened
+  frame-opened around =
+      ap (λ fs. with_frame fs number (frame_with around (frame_in fs number).passed)) (sym frame-none)
+      ∙ ap (λ (f : Frame). with_frame (all_frames (xs ++ (blank_frame ∷ []))) number (frame_with around f.passed)) (frame-read blank_frame)
+      ∙ frame-set blank_frame (frame_with around None)
 
-    number-top : (e column : ℕ) → frame_number (with_top e) frame column ≡ get_or (a ∷ b ∷ c ∷ d ∷ e ∷ rest) column 0
-    number-top e column = ap (λ fs. frame_number fs frame column) (frames-top a b c d e) ∙ number_behind (a ∷ b ∷ c ∷ d ∷ e ∷ rest) column
+  module _ (around : Bounds) (passed : Option Bounds) where
+    abbrev with_top : List Frame
+    with_top = all_frames (xs ++ (frame_with around passed ∷ []))
+
+    -- another frame in its place, made from it
+    changed : (to : Frame → Frame) → with_frame with_top number (to (frame_in with_top number)) ≡ all_frames (xs ++ (to (frame_with around passed) ∷ []))
+    changed to =
+        ap (λ (f : Frame). with_frame with_top number (to f)) (frame-read (frame_with around passed))
+        ∙ frame-set (frame_with around passed) (to (frame_with around passed))
 
     -- the open trip joins those visited before
-    pub trip-joins : (sums : List ℕ) → trip_passed (with_top 0) frame sums
-        ≡ all_frames (xs ++ (a ∷ b ∷ wrapped_sum c (least_of sums) ∷ wrapped_sum d (most_of sums) ∷ 0 ∷ []))
+    pub trip-joins : (trip : Bounds) → trip_passed with_top number trip ≡ all_frames (xs ++ (frame_with around (Some (plus (all_passed passed) trip)) ∷ []))
     unfolding trip_passed
-    trip-joins sums =
-        ap₂ (λ (m : ℕ) (n : ℕ). with_bounds (with_top 0) frame passed_column (wrapped_sum m (least_of sums)) (wrapped_sum n (most_of sums)))
-        (number-top 0 passed_column) (number-top 0 (passed_column + 1))
-        ∙ passed-top 0 (wrapped_sum c (least_of sums)) (wrapped_sum d (most_of sums))
+    trip-joins trip = changed (λ f. frame_with f.around (Some (plus (all_passed f.passed) trip)))
 
     -- the open arm joins those passed before
-    pub arm-joins : (sums : List ℕ) → arm_passed (with_top 1) frame sums ≡ all_frames (xs ++ (a ∷ b ∷ min c (least_of sums) ∷ max d (most_of sums) ∷ 1 ∷ []))
-    unfolding arm_passed arm_joins
-    arm-joins sums =
-        ap (λ (n : ℕ). arm_joins (with_top 1) frame n sums) (number-top 1 arm_column)
-        ∙ ap₂ (λ (m : ℕ) (n : ℕ). with_bounds (with_top 1) frame passed_column (min m (least_of sums)) (max n (most_of sums)))
-        (number-top 1 passed_column) (number-top 1 (passed_column + 1))
-        ∙ passed-top 1 (min c (least_of sums)) (max d (most_of sums))
-
-    pub first-arm-joins : (sums : List ℕ) → arm_passed (with_top 0) frame sums ≡ all_frames (xs ++ (a ∷ b ∷ least_of sums ∷ most_of sums ∷ 1 ∷ []))
-    unfolding arm_passed arm_joins
-    first-arm-joins sums =
-        let top : List ℕ = a ∷ b ∷ least_of sums ∷ most_of sums ∷ 0 ∷ rest in
-        ap (λ (n : ℕ). arm_joins (with_top 0) frame n sums) (number-top 0 arm_column)
-        ∙ ap (λ fs. set fs (frame_from frame + arm_column) 1) (passed-top 0 (least_of sums) (most_of sums) ∙ frames-top a b (least_of sums) (most_of sums) 0)
-        ∙ set-behind xs top (frame_from frame + arm_column) arm_column 1 (omega arith) ∙ sym (frames-top a b (least_of sums) (most_of sums) 1)
+    pub arm-joins : (arm : Bounds) → arm_passed with_top number arm ≡ all_frames (xs ++ (frame_with around (Some (arm_joins passed arm)) ∷ []))
+    unfolding arm_passed
+    arm-joins arm = changed (λ f. frame_with f.around (Some (arm_joins f.passed arm)))
 
     -- the frame is left
-    pub frame-blanked : (e : ℕ) → frame_left (with_top e) frame ≡ all_frames xs
+    pub frame-blanked : frame_left with_top number ≡ all_frames xs
     unfolding frame_left
-    frame-blanked e =
-        ap (λ fs. blanked fs (frame_from frame) frame_width) (frames-top a b c d e)
-        ∙ blanked-behind xs (a ∷ b ∷ c ∷ d ∷ e ∷ rest) (frame_from frame) frame_width (omega arith) (omega arith) ∙ sym frames-next
+    frame-blanked = changed (λ f. blank_frame) ∙ frame-none
 
     -- and a sum, or what it passed, goes to what is around it
-    pub sums-around : (e least most : ℕ) (sums : List ℕ) → sums_around (with_top e) frame least most sums ≡ with_sums sums (wrapped_sum a least) (wrapped_sum b most)
+    pub sums-around : (more : Bounds) (s : Sums) → sums_around with_top number more s ≡ with_sums s (plus around more)
     unfolding sums_around
-    sums-around e least most sums =
-        ap₂ (λ (m : ℕ) (n : ℕ). with_sums sums (wrapped_sum m least) (wrapped_sum n most)) (number-top e around_column) (number-top e (around_column + 1))
+    sums-around more s = ap (λ (f : Frame). with_sums s (plus f.around more)) (frame-read (frame_with around passed))
 
-    pub passed-around : (e : ℕ) (sums : List ℕ) → passed_around (with_top e) frame sums ≡ with_sums sums (wrapped_sum a c) (wrapped_sum b d)
-    unfolding passed_around
-    passed-around e sums =
-        ap₂ (λ (m : ℕ) (n : ℕ). sums_around (with_top e) frame m n sums) (number-top e passed_column) (number-top e (passed_column + 1)) ∙ sums-around e c d sums
+    pub passed-around : (s : Sums) → passed_around with_top number s ≡ with_sums s (plus around (all_passed passed))
+    unfolding passed_around sums_around
+    passed-around s = ap (λ (f : Frame). with_sums s (plus f.around (all_passed f.passed))) (frame-read (frame_with around passed))
 
 -- ---- counters
 
 abbrev pub all_counters : List ℕ → List ℕ
-all_counters = filled (part_length counter_part)
+all_counters = filled 0 depth_limit
 
 module _ (xs : List ℕ) (depth : ℕ) (behind : length xs ≡ depth) (room : depth < depth_limit) where
-  counters-top : (n : ℕ) → all_counters (xs ++ (n ∷ [])) ≡ xs ++ (n ∷ zeros (part_length counter_part - suc depth))
-  counters-top n =
-      let m : ℕ = part_length counter_part - suc depth in
-      filled-short (part_length counter_part) m (xs ++ (n ∷ [])) (omega (arith, length-append xs (n ∷ []))) ∙ append_assoc xs (n ∷ []) (zeros m)
-
   -- a loop that is not open has the counter 0
   pub counter-blank : all_counters (xs ++ (0 ∷ [])) ≡ all_counters xs
-  counter-blank =
-      let more : suc (part_length counter_part - suc depth) ≡ part_length counter_part - depth = omega arith in
-      counters-top 0 ∙ ap (λ (n : ℕ). xs ++ zeros n) more ∙ sym (filled-short (part_length counter_part) (part_length counter_part - depth) xs (omega arith))
+  counter-blank = top-blank 0 depth_limit xs depth behind room
 
   pub counter-top : (n : ℕ) → get_or (all_counters (xs ++ (n ∷ []))) depth 0 ≡ n
-  counter-top n =
-      ap (λ ns. get_or ns depth 0) (counters-top n) ∙ get_d-behind xs (n ∷ zeros (part_length counter_part - suc depth)) depth 0 0 (omega arith)
+  counter-top = top-read 0 depth_limit xs depth behind room
 
   pub counter-set : (n v : ℕ) → set (all_counters (xs ++ (n ∷ []))) depth v ≡ all_counters (xs ++ (v ∷ []))
-  counter-set n v =
-      ap (λ ns. set ns depth v) (counters-top n) ∙ set-behind xs (n ∷ zeros (part_length counter_part - suc depth)) depth 0 v (omega arith)
-      ∙ sym (counters-top v)
+  counter-set = top-set 0 depth_limit xs depth behind room
 
 -- ---- kept trips
 
-abbrev pub all_kept : List ℕ → List ℕ
-all_kept = filled (part_length kept_part)
+abbrev pub all_kept : List Bounds → List Bounds
+all_kept = filled no_bounds kept_limit
 
-module _ (xs : List ℕ) (depth : ℕ) (behind : length xs ≡ kept_from depth) (room : depth < depth_limit) where
+module _ (xs : List Bounds) (depth : ℕ) (behind : length xs ≡ kept_from depth) (room : depth < depth_limit) where
   -- with the kept trips of one loop more
-  abbrev pub kept_with : List ℕ → List ℕ
-  kept_with ys = all_kept (xs ++ filled (kept_room depth) ys)
+  abbrev pub kept_with : List Bounds → List Bounds
+  kept_with ys = all_kept (xs ++ filled no_bounds (kept_room depth) ys)
 
-  -- what is left behind the numbers of the loops around it
+  -- what is left behind the trips of the loops around it
   abbrev left : ℕ
-  left = part_length kept_part - kept_from depth
+  left = kept_limit - kept_from depth
 
-  pub kept_top : (ys : List ℕ) → length ys ≤ kept_room depth → kept_with ys ≡ xs ++ (ys ++ zeros (left - length ys))
+  abbrev none : ℕ → List Bounds
+  none n = replicate n no_bounds
+
+  pub kept_top : (ys : List Bounds) → length ys ≤ kept_room depth → kept_with ys ≡ xs ++ (ys ++ none (left - length ys))
   kept_top ys fits =
       let p : ℕ = kept_room depth - length ys in
       let q : ℕ = left - kept_room depth in
       let few = room_within depth room in
-      let all = length-append xs (ys ++ zeros p) in
-      let own = length-append ys (zeros p) in
-      let z = length-replicate p zero in
-      ap (λ zs. all_kept (xs ++ zs)) (filled-short (kept_room depth) p ys (omega arith))
-      ∙ filled-short (part_length kept_part) q (xs ++ (ys ++ zeros p)) (omega arith)
-      ∙ append_assoc xs (ys ++ zeros p) (zeros q)
-      ∙ ap (λ zs. xs ++ zs) (append_assoc ys (zeros p) (zeros q) ∙ ap (λ zs. ys ++ zs) (joined-zeros p q (left - length ys) (omega arith)))
+      let all = length-append xs (ys ++ none p) in
+      let own = length-append ys (none p) in
+      let z = length-replicate p no_bounds in
+      ap (λ zs. all_kept (xs ++ zs)) (filled-short no_bounds (kept_room depth) p ys (omega arith))
+      ∙ filled-short no_bounds kept_limit q (xs ++ (ys ++ none p)) (omega arith)
+      ∙ append_assoc xs (ys ++ none p) (none q)
+      ∙ ap (λ zs. xs ++ zs) (append_assoc ys (none p) (none q) ∙ ap (λ zs. ys ++ zs) (joined-blanks no_bounds p q (left - length ys) (omega arith)))
 
   -- a loop of which nothing is kept
   pub kept-blank : kept_with [] ≡ all_kept xs
   kept-blank =
       let few = room_within depth room in
-      kept_top [] (omega arith) ∙ ap (λ (n : ℕ). xs ++ zeros n) (let e : left - 0 ≡ left = omega arith in e)
-      ∙ sym (filled-short (part_length kept_part) left xs (omega arith))
+      kept_top [] (omega arith) ∙ ap (λ (n : ℕ). xs ++ none n) (let e : left - 0 ≡ left = omega arith in e)
+      ∙ sym (filled-short no_bounds kept_limit left xs (omega arith))
 
   -- one more trip is kept
-  pub trip-kept : (ys : List ℕ) (held : ℕ) (sums : List ℕ) → length ys ≡ 2 * held → length ys + 2 ≤ kept_room depth →
-      trip_kept (kept_with ys) depth held sums ≡ kept_with (ys ++ (least_of sums ∷ most_of sums ∷ []))
-  unfolding trip_kept with_pair
-  trip-kept ys held sums e fits =
+  pub trip-kept : (ys : List Bounds) (held : ℕ) (trip : Bounds) → length ys ≡ held → length ys + 1 ≤ kept_room depth →
+      trip_kept (kept_with ys) depth held trip ≡ kept_with (ys ++ (trip ∷ []))
+  unfolding trip_kept
+  trip-kept ys held trip e fits =
       let few = room_within depth room in
-      let trip : List ℕ = least_of sums ∷ most_of sums ∷ [] in
-      let zs : List ℕ = zeros (left - (length ys + 2)) in
-      let at : ℕ = kept_from depth + 2 * held in
-      let two : left - length ys ≡ suc (suc (left - (length ys + 2))) = omega arith in
-      let longer = length-append ys trip in
-      let all : left - length (ys ++ trip) ≡ left - (length ys + 2) = omega arith in
-      ap (λ ns. with_pair ns at (least_of sums) (most_of sums)) (kept_top ys (omega arith) ∙ ap (λ (n : ℕ). xs ++ (ys ++ zeros n)) two)
-      ∙ pair-behind xs (ys ++ (0 ∷ 0 ∷ zs)) at (2 * held) (least_of sums) (most_of sums) (omega arith)
-      ∙ ap (λ ns. xs ++ ns) (pair-behind ys (0 ∷ 0 ∷ zs) (2 * held) 0 (least_of sums) (most_of sums) (omega arith))
+      let zs : List Bounds = none (left - (length ys + 1)) in
+      let at : ℕ = kept_from depth + held in
+      let one : left - length ys ≡ suc (left - (length ys + 1)) = omega arith in
+      let longer = length-append ys (trip ∷ []) in
+      let all : left - length (ys ++ (trip ∷ [])) ≡ left - (length ys + 1) = omega arith in
+      ap (λ ns. set ns at trip) (kept_top ys (omega arith) ∙ ap (λ (n : ℕ). xs ++ (ys ++ none n)) one)
+      ∙ set-behind xs (ys ++ (no_bounds ∷ zs)) at held trip (omega arith)
+      ∙ ap (λ ns. xs ++ ns) (set-behind ys (no_bounds ∷ zs) held 0 trip (omega arith))
       ∙ sym
-      (kept_top (ys ++ trip) (omega arith)
+      (kept_top (ys ++ (trip ∷ [])) (omega arith)
       ∙ ap (λ ns. xs ++ ns)
-      (append_assoc ys trip (zeros (left - length (ys ++ trip))) ∙ ap (λ (n : ℕ). ys ++ (least_of sums ∷ most_of sums ∷ zeros n)) all))
+      (append_assoc ys (trip ∷ []) (none (left - length (ys ++ (trip ∷ [])))) ∙ ap (λ (n : ℕ). ys ++ (trip ∷ none n)) all))
 
   -- the kept trips of a loop that is left
-  pub kept-forgotten : (ys : List ℕ) (held : ℕ) → length ys ≡ 2 * held → length ys ≤ kept_room depth → forgotten (kept_with ys) depth held ≡ all_kept xs
+  pub kept-forgotten : (ys : List Bounds) (held : ℕ) → length ys ≡ held → length ys ≤ kept_room depth → forgotten (kept_with ys) depth held ≡ all_kept xs
   unfolding forgotten
   kept-forgotten ys held e fits =
       let few = room_within depth room in
       let m : ℕ = left - length ys in
-      let own = length-append ys (zeros m) in
-      ap (λ ns. blanked ns (kept_from depth) (2 * held)) (kept_top ys fits)
-      ∙ blanked-behind xs (ys ++ zeros m) (kept_from depth) (2 * held) (sym behind) (omega arith)
-      ∙ ap (λ ns. xs ++ (zeros (2 * held) ++ ns)) (drop_at ys (zeros m) (2 * held) e)
-      ∙ ap (λ ns. xs ++ ns) (joined-zeros (2 * held) m left (omega arith)) ∙ sym (filled-short (part_length kept_part) left xs (omega arith))
+      ap (λ ns. blanked no_bounds ns (kept_from depth) held) (kept_top ys fits)
+      ∙ blanked-behind no_bounds xs (ys ++ none m) (kept_from depth) held (sym behind)
+      ∙ ap (λ ns. xs ++ (none held ++ ns)) (drop_at ys (none m) held e)
+      ∙ ap (λ ns. xs ++ ns) (joined-blanks no_bounds held m left (omega arith)) ∙ sym (filled-short no_bounds kept_limit left xs (omega arith))

@@ -1,5 +1,3 @@
-pub mod OpenLaws
-pub mod FrameLaws
 pub mod KeptLaws
 pub mod Innermost
 pub mod ArmLaws

@@ -1,60 +1,53 @@
--- Frames: so many numbers for each open record, outermost first: the least and the most of what was passed around it; the least and the most of its
--- arms passed, or of the trips visited before if it is a walked loop; 1 if an arm was passed.
-use Rattle.std.specs.Prelude.{ℕ, zero, suc, ◌+◌, ◌*◌, ◌%◌, min, max, List, slice_index, slice_set}
+-- Frames, one for each open record, outermost first: what was passed around it, and what it passed itself: its arms, or the trips visited before if it
+-- is a walked loop.
+use Rattle.std.specs.Prelude.{ℕ, ◌%◌, List, Option, None, Some, slice_index_or, slice_set, unwrap_or}
 use Rattle.meaning.specs.Limits.{open_limit}
-use Rattle.state.specs.Open.{frame_width, with_pair, blanked}
-use Rattle.state.specs.Sums.{wrapped_sum, least_of, most_of, with_sums}
+use Rattle.state.specs.declared.bounds.Bounds.{Bounds}
+use Rattle.state.specs.declared.open.Frame.{Frame}
+use Rattle.state.specs.declared.sums.Sums.{Sums}
+use Rattle.state.specs.Bounds.{no_bounds, plus, joined}
+use Rattle.state.specs.Open.{blank_frame}
+use Rattle.state.specs.Sums.{with_sums}
 
--- where the numbers of a frame begin
-abbrev pub frame_from : ℕ → ℕ
-frame_from frame = frame % open_limit * frame_width
+abbrev pub frame_with : Bounds → Option Bounds → Frame
+frame_with around passed = record { around = around; passed = passed }
 
--- what was passed around it, what it passed, and whether it passed an arm
-abbrev pub around_column : ℕ
-around_column = 0
+-- a further arm joins the arms passed
+abbrev pub arm_joins : Option Bounds → Bounds → Bounds
+arm_joins None arm = arm
+arm_joins (Some passed) arm = joined passed arm
 
-abbrev pub passed_column : ℕ
-passed_column = 2
+-- all that it passed
+abbrev pub all_passed : Option Bounds → Bounds
+all_passed passed = unwrap_or passed no_bounds
 
-abbrev pub arm_column : ℕ
-arm_column = 4
+module _ (frames : List Frame) (number : ℕ) where
+  abbrev pub frame_in : Frame
+  frame_in = slice_index_or frames (number % open_limit) blank_frame
 
-module _ (frames : List ℕ) (frame : ℕ) where
-  -- one number of a frame
-  unfoldable pub frame_number : ℕ → ℕ
-  frame_number column = slice_index frames (frame_from frame + column)
+  abbrev pub with_frame : Frame → List Frame
+  with_frame frame = slice_set frames (number % open_limit) frame
 
-  -- another least and most from a column on
-  unfoldable pub with_bounds : ℕ → ℕ → ℕ → List ℕ
-  with_bounds column least most = with_pair frames (frame_from frame + column) least most
-
-  -- it opens: it keeps the sums of what is around it
-  unfoldable pub frame_opened : List ℕ → List ℕ
-  frame_opened sums = with_bounds around_column (least_of sums) (most_of sums)
+  -- it opens: it keeps what is around it
+  unfoldable pub frame_opened : Bounds → List Frame
+  frame_opened around = with_frame (frame_with around frame_in.passed)
 
   -- it is left
-  unfoldable pub frame_left : List ℕ
-  frame_left = blanked frames (frame_from frame) frame_width
+  unfoldable pub frame_left : List Frame
+  frame_left = with_frame blank_frame
 
   -- a least and a most go to what is around it
-  unfoldable pub sums_around : ℕ → ℕ → List ℕ → List ℕ
-  sums_around least most sums =
-      with_sums sums (wrapped_sum (frame_number around_column) least) (wrapped_sum (frame_number (around_column + 1)) most)
+  unfoldable pub sums_around : Bounds → Sums → Sums
+  sums_around more s = with_sums s (plus frame_in.around more)
 
   -- what it passed goes to what is around it
-  unfoldable pub passed_around : List ℕ → List ℕ
-  passed_around sums = sums_around (frame_number passed_column) (frame_number (passed_column + 1)) sums
+  unfoldable pub passed_around : Sums → Sums
+  passed_around s = sums_around (all_passed frame_in.passed) s
 
   -- the open arm joins its arms passed, the first of them or a further one
-  unfoldable pub arm_joins : ℕ → List ℕ → List ℕ
-  arm_joins zero sums = slice_set (with_bounds passed_column (least_of sums) (most_of sums)) (frame_from frame + arm_column) 1
-  arm_joins (suc n) sums =
-      with_bounds passed_column (min (frame_number passed_column) (least_of sums)) (max (frame_number (passed_column + 1)) (most_of sums))
-
-  unfoldable pub arm_passed : List ℕ → List ℕ
-  arm_passed sums = arm_joins (frame_number arm_column) sums
+  unfoldable pub arm_passed : Bounds → List Frame
+  arm_passed arm = with_frame (frame_with frame_in.around (Some (arm_joins frame_in.passed arm)))
 
   -- the open trip joins the trips visited before of its walked loop
-  unfoldable pub trip_passed : List ℕ → List ℕ
-  trip_passed sums =
-      with_bounds passed_column (wrapped_sum (frame_number passed_column) (least_of sums)) (wrapped_sum (frame_number (passed_column + 1)) (most_of sums))
+  unfoldable pub trip_passed : Bounds → List Frame
+  trip_passed trip = with_frame (frame_with frame_in.around (Some (plus (all_passed frame_in.passed) trip)))

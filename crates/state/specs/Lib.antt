@@ -1,3 +1,4 @@
+pub mod Bounds
 pub mod Open
 pub mod Sums
 pub mod Frames

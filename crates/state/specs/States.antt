@@ -1,24 +1,18 @@
--- The state of a stage, with what is open in its parts; the first state.
-use Rattle.std.specs.Prelude.{ℕ, List, [], ◌∷◌, replicate}
+-- The state of a stage, and the first state.
+use Rattle.std.specs.Prelude.{ℕ}
 use Rattle.state.specs.declared.State.{State}
-use Rattle.state.specs.Open.{OpenParts, open_length, parts_in}
+use Rattle.state.specs.declared.sums.Sums.{Sums}
+use Rattle.state.specs.declared.open.Open.{Open}
+use Rattle.state.specs.Sums.{sums}
+use Rattle.state.specs.Open.{nothing_open}
 
 -- where it stands, its sums, and what is open
-pub record StateParts : Type 0 where
-  pub at : ℕ
-  pub sums : List ℕ
-  pub parts : OpenParts
-
-abbrev pub state_with : ℕ → List ℕ → OpenParts → StateParts
-state_with at sums parts = record { at = at; sums = sums; parts = parts }
-
--- the same, where what is open is an array
-abbrev pub state_in : ℕ → List ℕ → List ℕ → StateParts
-state_in at sums numbers = state_with at sums (parts_in numbers)
+abbrev pub state_with : ℕ → Sums → Open → State
+state_with at sums opened = record { at = at; sums = sums; opened = opened }
 
 -- nothing open: where it stands, least, most and visits
 unfoldable pub blank_state : ℕ → ℕ → ℕ → ℕ → State
-blank_state at least most visits = record { at = at; sums = least ∷ most ∷ visits ∷ []; opened = replicate open_length 0 }
+blank_state at least most visits = state_with at (sums least most visits) nothing_open
 
 -- "The first state stands at the sheet's start with sums and visits 0"
 unfoldable pub first_state : State

@@ -1,85 +1,85 @@
-// The trips kept of the open closed loops, and of a ranked one in its first trips: a least and a most for each.
-ghost use Rattle.std.specs.Prelude.{◌≡◌, suc, ◌+◌, ◌%◌, ◌^◌, ◌<◌, ◌≤◌};
+// The trips kept of the open closed loops, and of a ranked one in its first trips.
+ghost use Rattle.std.specs.Prelude.{◌≡◌, suc, ◌+◌, ◌<◌, ◌≤◌};
 ghost use Rattle.meaning.specs.Limits.{depth_limit};
-ghost use Rattle.state.specs.Open.{parts_in, kept_in, with_kept};
-ghost use Rattle.state.specs.Sums.{most_column};
-ghost use Rattle.state.specs.Kept.{kept_from, trip_kept, kept_trip, kept_total, first_trips, forgotten};
+ghost use Rattle.state.specs.Open.{kept_limit, with_kept};
+ghost use Rattle.state.specs.Kept.{kept_room, kept_from, trip_kept, kept_trip, kept_sum, first_trips, forgotten};
 
-use crate::open::{KEPT, Open, blank, put_pair};
-use crate::sums::{LEAST, MOST, Sums};
+use crate::bounds::Bounds;
+use crate::open::Open;
 use form::MAX_DEPTH;
-use std::num::wrapping_add_u64;
 
 // Where the trips of a loop with so many loops around it begin.
+#[tactic(auto, unfolding(crate::specs::Kept::kept_from))]
 fn kept_from(depth: usize) -> usize
     requires { depth < depth_limit }
-    ensures { result ≡ kept_from depth }
+    ensures value { result ≡ kept_from depth }
+    ensures within { result + kept_room depth ≤ kept_limit }
 {
-    depth * (2 * MAX_DEPTH - 1 - depth)
+    depth * (2 * MAX_DEPTH - 1 - depth) / 2
 }
 
-// The open trip is kept, `held` trips before it.
-pub fn keep(opened: &mut Open, depth: usize, held: usize, sums: &Sums)
-    requires { suc (depth + held) < depth_limit }
-    ensures { parts_in opened.new
-        ≡ with_kept (parts_in opened.old) (trip_kept (kept_in opened.old) depth held sums.now) }
-{
-    put_pair(
-        opened,
-        KEPT + kept_from(depth) + 2 * held,
-        sums[LEAST],
-        sums[MOST],
-    );
-}
-
-// The least or the most, by its column in the sums, of a kept trip, by its number from 0 on.
-fn kept_trip(opened: &Open, depth: usize, column: usize, number: usize) -> u64
-    requires { (suc (depth + number) < depth_limit) × (column ≤ most_column) }
-    ensures { result ≡ kept_trip (kept_in opened.now) depth column number }
-{
-    opened[KEPT + kept_from(depth) + 2 * number + column]
-}
-
-// The same of the first trips: `held` kept ones, then the open one.
-pub fn first_trips(
-    opened: &Open,
-    depth: usize,
-    column: usize,
-    held: u64,
-    last: u64,
-) -> [u64; MAX_DEPTH]
-    requires { (depth + held < depth_limit) × (column ≤ most_column) }
-    ensures { result ≡ first_trips (kept_in opened.now) depth column held last }
-{
-    if held == 0 {
-        return [last, 0, 0, 0];
+impl Open {
+    // The open trip is kept, `held` trips before it.
+    #[tactic(auto, unfolding(crate::specs::Kept::trip_kept))]
+    pub fn keep(&mut self, depth: usize, held: usize, trip: Bounds)
+        requires { suc (depth + held) < depth_limit }
+        ensures { self.new ≡ with_kept self.old (trip_kept self.old.kept depth held trip) }
+    {
+        self.kept[kept_from(depth) + held] = trip;
     }
-    let first = kept_trip(opened, depth, column, 0);
-    if held == 1 {
-        return [first, last, 0, 0];
-    }
-    let second = kept_trip(opened, depth, column, 1);
-    if held == 2 {
-        return [first, second, last, 0];
-    }
-    let third = kept_trip(opened, depth, column, 2);
-    [first, second, third, last]
-}
 
-// The same of all kept trips together.
-pub fn kept_sum(opened: &Open, depth: usize, column: usize, held: u64) -> u64
-    requires { (depth + held < depth_limit) × (column ≤ most_column) }
-    ensures { result ≡ kept_total (kept_in opened.now) depth column held % 2 ^ 64 }
-{
-    let trips = first_trips(opened, depth, column, held, 0);
-    let first = wrapping_add_u64(trips[0], trips[1]);
-    wrapping_add_u64(first, trips[2])
-}
+    // A kept trip, by its number from 0 on.
+    #[tactic(auto, unfolding(crate::specs::Kept::kept_trip))]
+    fn kept_trip(&self, depth: usize, number: usize) -> Bounds
+        requires { suc (depth + number) < depth_limit }
+        ensures { result ≡ kept_trip self.now.kept depth number }
+    {
+        self.kept[kept_from(depth) + number]
+    }
 
-// The kept trips of a loop that is left.
-pub fn forget(opened: &mut Open, depth: usize, held: usize)
-    requires { depth + held < depth_limit }
-    ensures { parts_in opened.new ≡ with_kept (parts_in opened.old) (forgotten (kept_in opened.old) depth held) }
-{
-    blank(opened, KEPT + kept_from(depth), 2 * held);
+    // The first trips: `held` kept ones, then the open one.
+    #[tactic(auto, unfolding(crate::specs::Kept::first_trips))]
+    pub fn first_trips(&self, depth: usize, held: u64, last: Bounds) -> [Bounds; MAX_DEPTH]
+        requires { depth + held < depth_limit }
+        ensures { result ≡ first_trips self.now.kept depth held last }
+    {
+        let none = Bounds::exactly(0);
+        match held {
+            0 => [last, none, none, none],
+            1 => [self.kept_trip(depth, 0), last, none, none],
+            2 => [
+                self.kept_trip(depth, 0),
+                self.kept_trip(depth, 1),
+                last,
+                none,
+            ],
+            _ => {
+                let third = self.kept_trip(depth, 2);
+                [
+                    self.kept_trip(depth, 0),
+                    self.kept_trip(depth, 1),
+                    third,
+                    last,
+                ]
+            },
+        }
+    }
+
+    // All kept trips together.
+    pub fn kept_sum(&self, depth: usize, held: u64) -> Bounds
+        requires { depth + held < depth_limit }
+        ensures { result ≡ kept_sum self.now.kept depth held }
+    {
+        let trips = self.first_trips(depth, held, Bounds::exactly(0));
+        trips[0].plus(trips[1]).plus(trips[2])
+    }
+
+    // The kept trips of a loop that is left.
+    pub fn forget(&mut self, depth: usize, held: usize)
+        requires { depth + held < depth_limit }
+        ensures { self.new ≡ with_kept self.old (forgotten self.old.kept depth held) }
+    {
+        let from = kept_from(depth);
+        self.kept[from..from + held].fill(Bounds::exactly(0));
+    }
 }

@@ -2,6 +2,7 @@
 #![tactic(auto)]
 
 pub mod arms;
+pub mod bounds;
 pub mod frames;
 pub mod kept;
 pub mod open;
@@ -10,8 +11,9 @@ pub mod sums;
 ghost use Rattle.std.specs.Prelude.{◌≡◌};
 ghost use Rattle.state.specs.States.{first_state};
 
-use crate::open::{OPEN_NUMBERS, Open};
-use crate::sums::{SUM_NUMBERS, Sums};
+use crate::bounds::Bounds;
+use crate::open::Open;
+use crate::sums::Sums;
 
 // Where it stands (the number of a record), its sums, and what is open.
 #[derive(Clone, Copy)]
@@ -22,12 +24,16 @@ pub struct State {
 }
 
 // The first state stands at the sheet's start with sums and visits 0.
+#[tactic(auto, unfolding(crate::specs::States::first_state, crate::specs::States::blank_state))]
 pub fn first() -> State
     ensures { result ≡ first_state }
 {
     State {
         at: 0,
-        sums: [0; SUM_NUMBERS],
-        opened: [0; OPEN_NUMBERS],
+        sums: Sums {
+            passed: Bounds::exactly(0),
+            visits: 0,
+        },
+        opened: Open::nothing(),
     }
 }

@@ -1,62 +1,81 @@
-// What is open, as one array in four parts: a counter for each open loop, a frame for each open record, the kept trips of each open closed or
-// ranked loop, each part outermost first, and the kept arms of the open ranked loop. What is not open is 0.
-ghost use Rattle.std.specs.Prelude.{◌≡◌, ◌+◌, ◌<◌, ◌≤◌};
+// What is open: a counter for each open loop, a frame for each open record, the kept trips of each open closed or ranked loop, each outermost first,
+// and the kept arms of the open ranked loop. What is not open is blank.
+ghost use Rattle.std.specs.Prelude.{◌≡◌, ◌<◌};
 ghost use Rattle.meaning.specs.Limits.{depth_limit};
-ghost use Rattle.state.specs.Open.{open_length, parts_in, counter_at, with_counter, with_pair, blanked};
+ghost use Rattle.state.specs.Open.{blank_frame, nothing_open, counter_at, with_counter};
 
+use crate::bounds::Bounds;
 use form::MAX_DEPTH;
 use records::{MAX_OPEN, MAX_RECORDS};
 
-// How many numbers a frame has.
-pub(crate) const FRAME_WIDTH: usize = 5;
+// How many trips are kept at most: of a loop as many as there can be loops inside it.
+pub const MAX_KEPT_TRIPS: usize = MAX_DEPTH * (MAX_DEPTH - 1) / 2;
 
 // How many arms are kept at most: in as many trips as loops can be deep, all arms of a loop. A loop with a choice of m arms and with three loops
 // nested inside it takes m + 9 records.
 pub const MAX_KEPT_ARMS: usize = MAX_DEPTH * (MAX_RECORDS - 9);
 
-// Where the frames, the kept trips and the kept arms begin; the counters come first.
-pub(crate) const FRAMES: usize = MAX_DEPTH;
-
-pub(crate) const KEPT: usize = FRAMES + MAX_OPEN * FRAME_WIDTH;
-
-pub(crate) const ARMS: usize = KEPT + MAX_DEPTH * (MAX_DEPTH - 1);
-
-pub const OPEN_NUMBERS: usize = ARMS + 1 + 2 * MAX_KEPT_ARMS;
-
-pub type Open = [u64; OPEN_NUMBERS];
-
-// The counter of the open loop that has so many loops around it.
-pub fn counter_at(opened: &Open, depth: usize) -> u64
-    requires { depth < depth_limit }
-    ensures { result ≡ counter_at (parts_in opened.now) depth }
-{
-    opened[depth]
+// Of an open record: what was passed around it, and what it passed itself: its arms, or the trips visited before if it is a walked loop.
+#[derive(Clone, Copy)]
+pub struct Frame {
+    pub around: Bounds,
+    pub passed: Option<Bounds>,
 }
 
-pub fn put_counter(opened: &mut Open, depth: usize, counter: u64)
-    requires { depth < depth_limit }
-    ensures { parts_in opened.new ≡ with_counter (parts_in opened.old) depth counter }
-{
-    opened[depth] = counter;
+// How many arms are kept, and each of them.
+#[derive(Clone, Copy)]
+pub struct Arms {
+    pub count: usize,
+    pub bounds: [Bounds; MAX_KEPT_ARMS],
 }
 
-// A least and a most, one after the other.
-pub(crate) fn put_pair(opened: &mut Open, place: usize, least: u64, most: u64)
-    requires { place + 1 < open_length }
-    ensures { opened.new ≡ with_pair opened.old place least most }
-{
-    opened[place] = least;
-    opened[place + 1] = most;
+#[derive(Clone, Copy)]
+pub struct Open {
+    pub counters: [u64; MAX_DEPTH],
+    pub frames: [Frame; MAX_OPEN],
+    pub kept: [Bounds; MAX_KEPT_TRIPS],
+    pub arms: Arms,
 }
 
-// So many numbers from a place on become 0.
-pub(crate) fn blank(opened: &mut Open, from: usize, count: usize)
-    requires { from + count ≤ open_length }
-    ensures { opened.new ≡ blanked opened.old from count }
-{
-    let mut done = 0;
-    while done < count {
-        opened[from + done] = 0;
-        done += 1;
+impl Frame {
+    pub fn blank() -> Frame
+        ensures { result ≡ blank_frame }
+    {
+        Frame {
+            around: Bounds::exactly(0),
+            passed: None,
+        }
+    }
+}
+
+impl Open {
+    pub fn nothing() -> Open
+        ensures { result ≡ nothing_open }
+    {
+        let none = Bounds::exactly(0);
+        Open {
+            counters: [0; MAX_DEPTH],
+            frames: [Frame::blank(); MAX_OPEN],
+            kept: [none; MAX_KEPT_TRIPS],
+            arms: Arms {
+                count: 0,
+                bounds: [none; MAX_KEPT_ARMS],
+            },
+        }
+    }
+
+    // The counter of the open loop that has so many loops around it.
+    pub fn counter_at(&self, depth: usize) -> u64
+        requires { depth < depth_limit }
+        ensures { result ≡ counter_at self.now depth }
+    {
+        self.counters[depth]
+    }
+
+    pub fn put_counter(&mut self, depth: usize, counter: u64)
+        requires { depth < depth_limit }
+        ensures { self.new ≡ with_counter self.old depth counter }
+    {
+        self.counters[depth] = counter;
     }
 }
