@@ -7,7 +7,7 @@ use Rattle.meaning.specs.Record.{skip_where, skip_or, work_record, loop_record, 
 use Rattle.meaning.specs.Number.{unsigned16}
 use Rattle.meaning.specs.Writer.{RawRecord}
 use Rattle.form.specs.Packed.{form_of, packed, blank_form}
-use Rattle.std.specs.Prelude as std
+use Rattle.std.specs.Prelude as prelude
 use Rattle.std.specs.Prelude.{Some, None}
 use Rattle.records.specs.declared.Kind as code_kind
 use Rattle.records.specs.declared.Kind.TheVariants as variant
@@ -24,7 +24,7 @@ meant_kind variant.Choice = choice_kind
 meant_kind variant.NextArm = next_arm_kind
 meant_kind variant.SkipLoop = loop_kind true
 
-abbrev pub meant : std.Option code_kind.Kind → Option Kind
+abbrev pub meant : prelude.Option code_kind.Kind → Option Kind
 meant (Some k) = some (meant_kind k)
 meant None = none
 

@@ -41,6 +41,7 @@ impl Kind {
     }
 
     // The number of the kind.
+    #[tactic(auto, unfolding(meaning::specs::Record::kind_number))]
     pub fn number(self) -> u8
         ensures { result ≡ kind_number (meant_kind self) }
     {

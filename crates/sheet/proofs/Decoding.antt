@@ -13,12 +13,11 @@ use Rattle.meaning.specs.Record as M
 use Rattle.meaning.proofs.Logic.{refused-is-not-ok, none-is-not-some, ok-injective}
 use Rattle.meaning.proofs.RecordBytes.{kind_of-kind_number}
 use Rattle.meaning.proofs.RecordReader.{record_head, StandsAt}
-use Rattle.sheet.specs.declared.head.HeadAnswer.{HeadAnswer}
-use Rattle.sheet.specs.declared.head.HeadAnswer.TheVariants.{Found, End, Refused}
+use Rattle.std.specs.Prelude.{Some, None, Ok, Err}
 use Rattle.records.specs.declared.Record.{Record}
 use Rattle.sheet.specs.declared.head.Head as D
 use Rattle.records.specs.View.{blank_record, record_in, decoded_as, decoded}
-use Rattle.sheet.specs.Answers.{head_result, counted, or_zero, with_blanks}
+use Rattle.sheet.specs.Answers.{HeadResult, head_result, counted, or_zero, with_blanks}
 use Rattle.sheet.specs.Sheets.{records_in, records_of}
 use Rattle.sheet.proofs.Heads.{head_in, answer-found, answer-body}
 use Rattle.sheet.proofs.SheetRecords.{few-records, next-offset, one_more, record-stands}
@@ -90,15 +89,15 @@ module _ {sheet : List ℕ} {count : ℕ} {records : List Record} {at number : �
     stands = subst (λ (n : ℕ). StandsAt sheet n this) (sym g.offset) (record-stands sheet number inside)
 
     -- the arm where no record stands is not reached
-    pub decoding-finds : {X : Type 0} (a : HeadAnswer) → head_result a ≡ head_at sheet at → ((h : D.Head) → a ≡ Found h → ⊥) → X
+    pub decoding-finds : {X : Type 0} (a : HeadResult) → head_result a ≡ head_at sheet at → ((h : D.Head) → a ≡ Ok (Some h) → ⊥) → X
     decoding-finds {X} a found = go a (found ∙ stands.head_there)
       where
-        go : (x : HeadAnswer) → head_result x ≡ ok (some (record_head at this)) → ((h : D.Head) → x ≡ Found h → ⊥) → X
-        go (Found h) e other = absurd (other h refl)
-        go End e other = none-is-not-some (ok-injective e)
-        go (Refused r) e other = refused-is-not-ok e
+        go : (x : HeadResult) → head_result x ≡ ok (some (record_head at this)) → ((h : D.Head) → x ≡ Ok (Some h) → ⊥) → X
+        go (Ok (Some h)) e other = absurd (other h refl)
+        go (Ok None) e other = none-is-not-some (ok-injective e)
+        go (Err r) e other = refused-is-not-ok e
 
-    module _ {a : HeadAnswer} (found : head_result a ≡ head_at sheet at) {h : D.Head} (is : a ≡ Found h) where
+    module _ {a : HeadResult} (found : head_result a ≡ head_at sheet at) {h : D.Head} (is : a ≡ Ok (Some h)) where
       same_head : head_in h ≡ record_head at this
       same_head = let e = sym (answer-found sheet at found is) ∙ stands.head_there in cc
 

@@ -16,10 +16,10 @@ use Rattle.meaning.specs.Record.{Kind, kind_of, body_length}
 use Rattle.meaning.specs.Reader.{Result, ok, refused, require, or_refuse, and_then, Head, head_of, head_at, body_of, body_at}
 use Rattle.meaning.proofs.Logic.{none-is-not-some, true-is-not-false, ok-injective, and_then-ok, require-ok, or_refuse-ok}
 use Rattle.sheet.specs.declared.head.Head as D
-use Rattle.sheet.specs.declared.head.HeadAnswer.{HeadAnswer}
-use Rattle.sheet.specs.declared.head.HeadAnswer.TheVariants.{Found, End, Refused}
+use Rattle.std.specs.Prelude.{Some, None, Ok, Err}
 use Rattle.sheet.specs.declared.refusal.Refusal.{Refusal}
-use Rattle.sheet.specs.Answers.{head_result}
+use Rattle.sheet.specs.Refusals.{refusal_number}
+use Rattle.sheet.specs.Answers.{HeadResult, head_result}
 use Rattle.records.specs.View.{is_some_kind, is_kind, length_of, length_of_kind}
 
 -- ---- the kind of a number
@@ -151,27 +151,27 @@ body-found sheet at e = ap (body_of sheet) e
 abbrev pub head_in : D.Head → Head
 head_in h = record { kind_number = h.kind; body_offset = h.offset; body_length = h.length }
 
-module _ (sheet : List ℕ) (at : ℕ) {a : HeadAnswer} (found : head_result a ≡ head_at sheet at) where
-  pub answer-found : {h : D.Head} → a ≡ Found h → head_at sheet at ≡ ok (some (head_in h))
+module _ (sheet : List ℕ) (at : ℕ) {a : HeadResult} (found : head_result a ≡ head_at sheet at) where
+  pub answer-found : {h : D.Head} → a ≡ Ok (Some h) → head_at sheet at ≡ ok (some (head_in h))
   answer-found e = sym found ∙ ap head_result e
 
-  pub answer-refused : {r : Refusal} → a ≡ Refused r → head_at sheet at ≡ refused r.number r.offset
+  pub answer-refused : {r : Refusal} → a ≡ Err r → head_at sheet at ≡ refused (refusal_number r.kind) r.offset
   answer-refused e = sym found ∙ ap head_result e
 
-  pub answer-end : a ≡ End → head_at sheet at ≡ ok none
+  pub answer-end : a ≡ Ok None → head_at sheet at ≡ ok none
   answer-end e = sym found ∙ ap head_result e
 
-  pub answer-stands : {h : D.Head} → a ≡ Found h → HeadStands sheet at (head_in h)
+  pub answer-stands : {h : D.Head} → a ≡ Ok (Some h) → HeadStands sheet at (head_in h)
   answer-stands e = head-stands sheet at (answer-found e)
 
   -- the part of the sheet that the code takes is the record's body
-  pub answer-body : {h : D.Head} → a ≡ Found h → take (h.offset + h.length - h.offset) (drop h.offset sheet) ≡ body_at sheet at
+  pub answer-body : {h : D.Head} → a ≡ Ok (Some h) → take (h.offset + h.length - h.offset) (drop h.offset sheet) ≡ body_at sheet at
   answer-body {h} e =
       ap (λ (n : ℕ). take n (drop h.offset sheet)) (add-sub_cancel_left h.offset h.length) ∙ sym (body-found sheet at (answer-found e))
 
--- the arm for the other two variants
-pub answer-none : (sheet : List ℕ) (at : ℕ) (a : HeadAnswer) → head_result a ≡ head_at sheet at → ((h : D.Head) → a ≡ Found h → ⊥) → [] ≡ body_at sheet at
+-- the other two cases
+pub answer-none : (sheet : List ℕ) (at : ℕ) (a : HeadResult) → head_result a ≡ head_at sheet at → ((h : D.Head) → a ≡ Ok (Some h) → ⊥) → [] ≡ body_at sheet at
 unfolding body_at body_of
-answer-none sheet at (Found h) e other = absurd (other h refl)
-answer-none sheet at End e other = ap (body_of sheet) e
-answer-none sheet at (Refused r) e other = ap (body_of sheet) e
+answer-none sheet at (Ok (Some h)) e other = absurd (other h refl)
+answer-none sheet at (Ok None) e other = ap (body_of sheet) e
+answer-none sheet at (Err r) e other = ap (body_of sheet) e

@@ -1,3 +1,4 @@
+pub mod Refused
 pub mod Heads
 pub mod Openings
 pub mod OneRecord

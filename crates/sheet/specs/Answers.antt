@@ -1,33 +1,35 @@
--- The number and the values that document 01 gives to each case of the answers.
+-- What the results of the code are in the words of document 01.
 use Rattle.std.specs.Prelude.{List, ◌++◌, map, ℕ, ◌+◌, ◌-◌, length, replicate}
 use Rattle.std.proofs.Math.Option.{Option, none, some}
 use Rattle.meaning.specs.Limits.{record_limit}
 use Rattle.meaning.specs.Record as M
 use Rattle.meaning.specs.Record.{record_length, open_loop}
 use Rattle.meaning.specs.Reader.{Result, ok, refused, require, Accepted, Head}
-use Rattle.sheet.specs.declared.head.HeadAnswer.{HeadAnswer}
-use Rattle.sheet.specs.declared.head.HeadAnswer.TheVariants as head
-use Rattle.sheet.specs.declared.reader.ReadAnswer.{ReadAnswer}
-use Rattle.sheet.specs.declared.reader.ReadAnswer.TheVariants as read
+use Rattle.std.specs.Prelude as prelude
+use Rattle.std.specs.Prelude.{Some, None, Ok, Err}
+use Rattle.sheet.specs.declared.head.Head as code
+use Rattle.sheet.specs.declared.refusal.Refusal.{Refusal}
 use Rattle.sheet.specs.declared.nesting.Nesting.{Nesting}
 use Rattle.sheet.specs.declared.nesting.AcceptedRecord.{AcceptedRecord}
-use Rattle.sheet.specs.declared.nesting.RecordAnswer.{RecordAnswer}
-use Rattle.sheet.specs.declared.nesting.RecordAnswer.TheVariants as answer
 use Rattle.records.specs.declared.Record.{Record}
+use Rattle.sheet.specs.Refusals.{refusal_number}
 use Rattle.sheet.specs.Sheets.{records_in}
 use Rattle.records.specs.View.{blank_record, record_in}
 use Rattle.sheet.specs.Nestings.{nesting_of, fields_pass, nesting_after, may_stand_in}
 
--- the record reader's answer: a head, the end, or a refusal with its number and its place
-abbrev pub head_result : HeadAnswer → Result (Option Head)
-head_result (head.Found h) = ok (some (record { kind_number = h.kind; body_offset = h.offset; body_length = h.length }))
-head_result head.End = ok none
-head_result (head.Refused r) = refused r.number r.offset
+-- a result of the code as document 01 has it: the value, or a refusal with its number and its place
+abbrev pub refusable : {A : Type 0} → prelude.Result A Refusal → Result A
+refusable (Ok a) = ok a
+refusable (Err r) = refused (refusal_number r.kind) r.offset
 
--- one record's answer: accepted, or a refusal
-abbrev pub accepted_result : RecordAnswer → Result AcceptedRecord
-accepted_result (answer.Accepted a) = ok a
-accepted_result (answer.Refused r) = refused r.number r.offset
+-- the record reader's answer: a head, the end, or a refusal
+abbrev pub HeadResult : Type 0
+HeadResult = prelude.Result (prelude.Option code.Head) Refusal
+
+abbrev pub head_result : HeadResult → Result (Option Head)
+head_result (Ok (Some h)) = ok (some (record { kind_number = h.kind; body_offset = h.offset; body_length = h.length }))
+head_result (Ok None) = ok none
+head_result (Err r) = refused (refusal_number r.kind) r.offset
 
 -- what the code keeps of an accepted record: its length, and what is open after it
 unfoldable pub accepted_of : Result Accepted → Result AcceptedRecord
@@ -40,11 +42,6 @@ unfoldable pub accept_in : ℕ → Nesting → ℕ → List ℕ → Result Accep
 accept_in at here kind body =
     require (fields_pass (replicate here.depth open_loop) kind body) 3 at
     (require (may_stand_in here kind) 5 at (ok (record { length = 1 + length body; after = nesting_after here kind })))
-
--- the reader's answer: a count, or a refusal
-abbrev pub count_result : ReadAnswer → Result ℕ
-count_result (read.Count n) = ok n
-count_result (read.Refused r) = refused r.number r.offset
 
 -- how many records there are, or the refusal
 unfoldable pub counted : Result (List M.Record) → Result ℕ

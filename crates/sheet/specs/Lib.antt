@@ -1,3 +1,4 @@
+pub mod Refusals
 pub mod Sheets
 pub mod Nestings
 pub mod Answers

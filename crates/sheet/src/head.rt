@@ -3,60 +3,50 @@ ghost use Rattle.std.specs.Prelude.{◌≡◌};
 ghost use Rattle.meaning.specs.Reader.{head_at, body_at};
 ghost use Rattle.sheet.specs.Answers.{head_result};
 
-use crate::refusal::Refusal;
+use crate::refusal::{Refusal, RefusalKind};
 use records::{body_length, is_kind};
 
 // A record's kind, and where its body begins and how long it is.
-#[derive(Clone, Copy)]
+#[derive(Clone, Copy, PartialEq, Eq)]
 pub struct Head {
     pub kind: u8,
     pub offset: usize,
     pub length: usize,
 }
 
-#[derive(Clone, Copy)]
-pub enum HeadAnswer {
-    Found(Head),
-    End,
-    Refused(Refusal),
-}
-
-pub fn head_at(sheet: &[u8], at: usize) -> HeadAnswer
+pub fn head_at(sheet: &[u8], at: usize) -> Result<Option<Head>, Refusal>
     ensures { head_result result ≡ head_at sheet.now at }
 {
     if sheet.len() <= at {
-        return HeadAnswer::End;
+        return Ok(None);
     }
     let kind = sheet[at];
     if !is_kind(kind) {
-        return HeadAnswer::Refused(Refusal {
-            number: 2,
+        return Err(Refusal {
+            kind: RefusalKind::UnknownKind,
             offset: at,
         });
     }
     let length = body_length(kind);
     if sheet.len() - at - 1 < length {
-        return HeadAnswer::Refused(Refusal {
-            number: 1,
+        return Err(Refusal {
+            kind: RefusalKind::CutShort,
             offset: at,
         });
     }
-    HeadAnswer::Found(Head {
+    Ok(Some(Head {
         kind: kind,
         offset: at + 1,
         length: length,
-    })
+    }))
 }
 
 // The body of the record at an offset; empty where no record stands.
 pub fn body_at(sheet: &[u8], at: usize) -> &[u8]
     ensures { result.now ≡ body_at sheet.now at }
 {
-    let answer = head_at(sheet, at);
-    let HeadAnswer::Found(head) = answer else {
-        return &sheet[0..0];
+    let Ok(Some(head)) = head_at(sheet, at) else {
+        return &[];
     };
-    let from = head.offset;
-    let to = from + head.length;
-    &sheet[from..to]
+    &sheet[head.offset..head.offset + head.length]
 }

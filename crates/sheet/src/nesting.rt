@@ -1,19 +1,20 @@
 // What is open where a record stands, and refusals 3 and 5 of a record there.
 ghost use Rattle.std.specs.Prelude.{◌≡◌, List, [], ◌≤◌, length};
 ghost use Rattle.std.proofs.Math.Option.{some};
-ghost use Rattle.meaning.specs.Record.{Kind, kind_of, body_length, decode_record, Open, loop_depth};
+ghost use Rattle.meaning.specs.Record as M;
+ghost use Rattle.meaning.specs.Record.{kind_of, body_length, decode_record, Open, loop_depth};
 ghost use Rattle.meaning.specs.Reader.{accept};
 ghost use Rattle.sheet.specs.Nestings.{nesting_of, fields_pass, open_after_kind, extended_nesting, closed_nesting, nesting_after, may_stand_in};
-ghost use Rattle.sheet.specs.Answers.{accepted_result, accepted_of, accept_in};
+ghost use Rattle.sheet.specs.Answers.{refusable, accepted_of, accept_in};
 
-use crate::refusal::Refusal;
+use crate::refusal::{Refusal, RefusalKind};
 use form::MAX_DEPTH;
 use records::loops::Loop;
 use records::work::Work;
-use records::{CHOICE, END, MAX_OPEN, NEXT_ARM, SKIP_LOOP, WORK, is_loop};
+use records::{Kind, MAX_OPEN};
 
 // How many records are open, how many of these are loops, and which: bit 0 of `loops` is 1 where the innermost is a loop, and so on outward.
-#[derive(Clone, Copy)]
+#[derive(Clone, Copy, PartialEq, Eq)]
 pub struct Nesting {
     pub size: usize,
     pub depth: usize,
@@ -24,29 +25,23 @@ pub struct Nesting {
 const DIGITS: u64 = 1 << (MAX_OPEN - 1);
 
 // A record that is in its place: its length, and what is open after it.
-#[derive(Clone, Copy)]
+#[derive(Clone, Copy, PartialEq, Eq)]
 pub struct AcceptedRecord {
     pub length: usize,
     pub after: Nesting,
 }
 
-#[derive(Clone, Copy)]
-pub enum RecordAnswer {
-    Accepted(AcceptedRecord),
-    Refused(Refusal),
-}
-
 // 3: whether the fields of a record are in their ranges, `depth` loops being around it.
+#[tactic(auto, unfolding(crate::specs::Nestings::fields_pass, crate::specs::Nestings::fields_pass_as, meaning::specs::Record::fields_in_range, meaning::specs::Record::decode_record))]
 fn fields_in_range(kind: u8, body: &[u8], depth: usize) -> bool
     ensures { (os : List Open) → loop_depth os ≡ depth → result ≡ fields_pass os kind body.now }
 {
-    if kind == WORK {
-        return Work::in_range(body);
+    match Kind::of(kind) {
+        Some(Kind::Work) => Work::in_range(body),
+        Some(Kind::Loop) => Loop::in_range(body, false, depth),
+        Some(Kind::SkipLoop) => Loop::in_range(body, true, depth),
+        Some(Kind::End | Kind::Choice | Kind::NextArm) | None => true,
     }
-    if is_loop(kind) {
-        return Loop::in_range(body, kind == SKIP_LOOP, depth);
-    }
-    true
 }
 
 impl Nesting {
@@ -61,39 +56,31 @@ impl Nesting {
     }
 
     // 5: whether a record of this kind may stand here.
+    #[tactic(auto, unfolding(crate::specs::Nestings::may_stand_in, crate::specs::Nestings::may_stand_in_as))]
     fn allows(self, kind: u8) -> bool
         ensures { result ≡ may_stand_in self kind }
     {
-        if is_loop(kind) {
-            return self.depth < MAX_DEPTH && self.size < MAX_OPEN;
+        match Kind::of(kind) {
+            Some(Kind::Loop | Kind::SkipLoop) => self.depth < MAX_DEPTH && self.size < MAX_OPEN,
+            Some(Kind::Choice) => self.size < MAX_OPEN,
+            Some(Kind::End) => self.size != 0,
+            Some(Kind::NextArm) => self.size != 0 && self.loops % 2 == 0,
+            Some(Kind::Work) | None => true,
         }
-        if kind == CHOICE {
-            return self.size < MAX_OPEN;
-        }
-        if kind == END {
-            return self.size != 0;
-        }
-        if kind == NEXT_ARM {
-            return self.size != 0 && self.loops % 2 == 0;
-        }
-        true
     }
 
     // What is open after a record; `open`: after one that may stand here, where the three numbers are those of a list of open records.
+    #[tactic(auto, unfolding(crate::specs::Nestings::nesting_after, crate::specs::Nestings::nesting_after_as), using(crate::proofs::Openings::after_is))]
     pub fn after(self, kind: u8) -> Nesting
         ensures numbers { result ≡ nesting_after self kind }
         ensures open { (os us : List Open) → self ≡ nesting_of os → open_after_kind os kind ≡ some us → result ≡ nesting_of us }
     {
-        if is_loop(kind) {
-            return self.extended(1);
+        match Kind::of(kind) {
+            Some(Kind::Loop | Kind::SkipLoop) => self.extended(1),
+            Some(Kind::Choice) => self.extended(0),
+            Some(Kind::End) => self.closed(),
+            Some(Kind::Work | Kind::NextArm) | None => self,
         }
-        if kind == CHOICE {
-            return self.extended(0);
-        }
-        if kind == END {
-            return self.closed();
-        }
-        self
     }
 
     // One more open record: a loop's digit is 1, a choice's 0. Where another may open, the remainder loses no digit.
@@ -129,25 +116,30 @@ impl Nesting {
 
 // Refusals 3 and 5, in this order, of a record that would stand at an offset where `here` is open.
 // `records`: as the meaning accepts it, where the three numbers are those of a list of open records.
-pub fn accept_record(at: usize, here: Nesting, kind: u8, body: &[u8]) -> RecordAnswer
-    ensures numbers { accepted_result result ≡ accept_in at here kind body.now }
-    ensures records { (os : List Open) (k : Kind) → here ≡ nesting_of os → kind_of kind ≡ some k → length body.now ≡ body_length k →
-        accepted_result result ≡ accepted_of (accept at os (decode_record k body.now)) }
+pub fn accept_record(
+    at: usize,
+    here: Nesting,
+    kind: u8,
+    body: &[u8],
+) -> Result<AcceptedRecord, Refusal>
+    ensures numbers { refusable result ≡ accept_in at here kind body.now }
+    ensures records { (os : List Open) (k : M.Kind) → here ≡ nesting_of os → kind_of kind ≡ some k → length body.now ≡ body_length k →
+        refusable result ≡ accepted_of (accept at os (decode_record k body.now)) }
 {
     if !fields_in_range(kind, body, here.depth) {
-        return RecordAnswer::Refused(Refusal {
-            number: 3,
+        return Err(Refusal {
+            kind: RefusalKind::FieldOutOfRange,
             offset: at,
         });
     }
     if !here.allows(kind) {
-        return RecordAnswer::Refused(Refusal {
-            number: 5,
+        return Err(Refusal {
+            kind: RefusalKind::Misplaced,
             offset: at,
         });
     }
     let after = here.after(kind);
-    RecordAnswer::Accepted(AcceptedRecord {
+    Ok(AcceptedRecord {
         length: 1 + body.len(),
         after: after,
     })

@@ -1,7 +1,7 @@
 -- The invariant: the records before `at` are read, and what stands from there on settles the rest. The measure is what is left of the sheet.
-use mathlib.Core.Path.{sym, ap, ◌∙◌}
+use mathlib.Core.Path.{◌∙◌}
 use native.Mathlib.Omega.{arith}
-use Rattle.sheet.specs.Answers.{accepted_result}
+use Rattle.sheet.proofs.Refused.{passed-on}
 use Rattle.sheet.proofs.Reading.{reading-start, reading-full, reading-refused, reading-forward, reading-next, reading-open, reading-done}
 use Rattle.sheet.proofs.reader.check_sheet.Goals as goal
 
@@ -14,28 +14,27 @@ returns-then-count-ge-MAX_RECORDS c = reading-full c.loop-at.invariant c.loop-at
 pub overflow_add-at : goal.overflow_add-at
 overflow_add-at c =
     let inv = c.loop-at.invariant in
-    let told = sym (ap accepted_result c.in-Accepted.is) ∙ c.read_record-answer.ensures inv.os inv.opens in
+    let told = c.in_ok-record.ensures inv.os inv.opens in
     let next = reading-next inv c.loop-at-test.true c.if-count-ge-MAX_RECORDS.false told in
     omega (arith, next.inside, c.well_formed)
 
 pub loop-at-smaller : goal.loop-at-smaller
 loop-at-smaller c =
     let inv = c.loop-at.invariant in
-    let told = sym (ap accepted_result c.in-Accepted.is) ∙ c.read_record-answer.ensures inv.os inv.opens in
+    let told = c.in_ok-record.ensures inv.os inv.opens in
     let forward = reading-forward inv c.loop-at-test.true c.if-count-ge-MAX_RECORDS.false told in
     omega (arith, forward, c.loop-at-test.true)
 
 pub loop-at-preserved : goal.loop-at-preserved
 loop-at-preserved c =
     let inv = c.loop-at.invariant in
-    let told = sym (ap accepted_result c.in-Accepted.is) ∙ c.read_record-answer.ensures inv.os inv.opens in
-    reading-next inv c.loop-at-test.true c.if-count-ge-MAX_RECORDS.false told
+    reading-next inv c.loop-at-test.true c.if-count-ge-MAX_RECORDS.false (c.in_ok-record.ensures inv.os inv.opens)
 
-pub returns-in-Refused : goal.returns-in-Refused
-returns-in-Refused c =
+pub returns-in_err-record : goal.returns-in_err-record
+returns-in_err-record c =
     let inv = c.loop-at.invariant in
-    let told = sym (ap accepted_result c.in-Refused.is) ∙ c.read_record-answer.ensures inv.os inv.opens in
-    reading-refused inv c.loop-at-test.true c.if-count-ge-MAX_RECORDS.false told
+    passed-on c.from_residual.result _ c.from_residual.ensures.1
+    ∙ reading-refused inv c.loop-at-test.true c.if-count-ge-MAX_RECORDS.false (c.in_err-record.ensures inv.os inv.opens)
 
 pub returns-then-here-ne0 : goal.returns-then-here-ne0
 returns-then-here-ne0 c = reading-open c.loop-at.invariant c.loop-at-test.false c.if-here-ne0.true

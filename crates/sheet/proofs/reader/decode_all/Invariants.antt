@@ -1,10 +1,6 @@
--- The invariant: the first `number` records are stored, and the next one stands at `at`. The measure is how many are left.
-use Prim.Native.Nat.{◌-◌}
+-- The invariant: the first `number` records are stored, and the next one stands at `at`.
 use Rattle.sheet.proofs.Decoding.{Decoding}
 use Rattle.sheet.proofs.reader.decode_all.Given as goal
 
 abbrev pub invariant-loop-number : goal.invariant-loop-number
 invariant-loop-number l = Decoding l.sheet l.count l.records l.at l.number
-
-abbrev pub decreases-loop-number : goal.decreases-loop-number
-decreases-loop-number l = l.count - l.number
