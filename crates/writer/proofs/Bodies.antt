@@ -23,7 +23,7 @@ use Rattle.records.specs.View.{loop_of}
 use Rattle.writer.proofs.Fits.{LoopFits}
 
 -- the pattern of a number that has one, as the code is told of it
-exact : {half : ℕ} {w v : Width} → Widths half w v → (z : ℤ) → T (has_pattern half z)
+exact : {half : ℕ} {w : Width} → Widths half w → (z : ℤ) → T (has_pattern half z)
     → {r : ℕ} → r ≡ encode_signed half (to_z w (of_z w z)) → r ≡ encode_signed half z
 unfolding has_pattern
 exact {half} widths z t e = handed half (record { sfits = omega (arith, ltb→lt (mag z) half t, widths.narrow) }) e

@@ -1,11 +1,7 @@
--- Past the end it is 0; else the low half plus 2^16 times the high one.
-use Rattle.encoding.proofs.Fields.{past_end, unsigned32-halves}
+-- The four bytes, each worth 256 times the one before.
+use Rattle.std.proofs.Common.{◌∙◌, drop}
+use Rattle.encoding.proofs.Fields.{read-bytes}
 use Rattle.encoding.proofs.number.unsigned32_at.Goals as goal
 
-pub returns-then-s-at : goal.returns-then-s-at
-returns-then-s-at c = past_end c.args.s.now c.args.at 4 c.if-s-at.true
-
 pub returns : goal.returns
-returns c =
-    let start = c in
-    unsigned32-halves start.args.s.now start.args.at c.unsigned16_at-low.ensures c.unsigned16_at-high.ensures
+returns c = c.from_le_bytes.ensures ∙ read-bytes c.bytes_at.result (drop c.args.at c.args.s.now) 3 c.bytes_at.ensures

@@ -1,8 +1,8 @@
--- The eight bytes are the low byte of the number and those of its quotient by 256.
-use Rattle.meaning.specs.Number.{little_endian}
-use borrow.Author.Rules.{rules}
+-- The bytes of the number, the low one first.
+use Rattle.std.proofs.Common.{◌∙◌}
+use mir.Syntax.{w64}
+use Rattle.encoding.proofs.Fields.{le-bytes}
 use Rattle.encoding.proofs.pattern.eight_bytes.Goals as goal
 
 pub returns : goal.returns
-unfolding little_endian
-returns c = search rules
+returns c = c.to_le_bytes.ensures ∙ le-bytes w64 c.args.number

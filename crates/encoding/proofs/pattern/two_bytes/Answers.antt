@@ -1,13 +1,8 @@
--- The quotient of a number of 16 bits by 256 is a byte.
-use native.Mathlib.Omega.{arith}
-use mathlib.Core.Path.{◌≡◌, ap}
-use mathlib.Core.List.{[], ◌∷◌}
-use Prim.Native.Nat.{ℕ, ◌/◌, ◌%◌}
-use Rattle.meaning.specs.Number.{little_endian}
+-- The bytes of the number, the low one first.
+use Rattle.std.proofs.Common.{◌∙◌}
+use mir.Syntax.{w16}
+use Rattle.encoding.proofs.Fields.{le-bytes}
 use Rattle.encoding.proofs.pattern.two_bytes.Goals as goal
 
 pub returns : goal.returns
-unfolding little_endian
-returns c =
-    let high : c.args.number / 256 ≡ c.args.number / 256 % 256 = omega arith in
-    ap (λ (h : ℕ). c.args.number % 256 ∷ h ∷ []) high
+returns c = c.to_le_bytes.ensures ∙ le-bytes w16 c.args.number
