@@ -10,7 +10,8 @@ use denote.Enum.Bare.{sameb}
 use denote.Enum.Declared.{tag_of}
 use Rattle.layout.specs.contracts.rows.Role.{the_type}
 use Rattle.layout.specs.declared.rows.Role.TheVariants as roles
-use Rattle.layout.specs.Rows.{Role, role_named, role_number}
+use Rattle.layout.specs.declared.rows.Role.{Role}
+use Rattle.layout.specs.Rows.{role_named, role_number}
 
 -- one of the five roles of records
 abbrev pub known : Role → Bool

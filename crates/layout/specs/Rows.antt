@@ -3,7 +3,7 @@ use Rattle.std.specs.Prelude.{List, [], ◌∷◌, ℕ, zero, suc, ◌+◌, ◌*
 use Rattle.meaning.specs.Limits.{record_limit, depth_limit, open_limit}
 use Rattle.meaning.specs.Record.{Kind, work_kind, loop_kind, end_kind, choice_kind, next_arm_kind, skip_cycles, Record, work_record, loop_record, end_record, choice_record, next_arm_record, kind}
 use Rattle.layout.specs.declared.rows.Row.{Row}
-pub use Rattle.layout.specs.declared.rows.Role.{Role}
+use Rattle.layout.specs.declared.rows.Role.{Role}
 use Rattle.layout.specs.declared.rows.Role.TheVariants as roles
 use Rattle.layout.specs.Loops.{loop_limit}
 

@@ -17,7 +17,8 @@ use Rattle.meaning.proofs.RecordBytes.{sheet_length-bound}
 use Rattle.records.specs.View.{length_of_kind}
 use Rattle.sheet.specs.Sheets.{records_of}
 use Rattle.sheet.proofs.SheetRecords.{few-records, kind-there, length-by-number, next-offset, record-fits, record-stands}
-use Rattle.layout.specs.Rows.{role_number, role_of}
+use Rattle.layout.specs.declared.rows.Role.{Role}
+use Rattle.layout.specs.Rows.{role_of}
 use Rattle.nest.specs.Known.{RecordAt, RecordBefore}
 use Rattle.nest.specs.Roles.{open_after_role, role_of_byte}
 use Rattle.nest.specs.Walk.{records_inside}
@@ -35,7 +36,7 @@ module _ {sheet : List ℕ} {count n at : ℕ} (g : RecordAt sheet count n at) w
   pub kind-read : get_or sheet at 0 ≡ kind_number (kind current)
   kind-read = ap (λ (m : ℕ). get_or sheet m 0) g.offset ∙ kind-there sheet n present
 
-  pub role-read : {byte role : ℕ} → byte ≡ get_or sheet at 0 → role ≡ role_of_byte byte → role ≡ role_number (role_of current)
+  pub role-read : {byte : ℕ} {role : Role} → byte ≡ get_or sheet at 0 → role ≡ role_of_byte byte → role ≡ role_of current
   role-read k r = r ∙ ap role_of_byte (k ∙ kind-read) ∙ role-of-record current
 
   pub stands-there : StandsAt sheet at current
@@ -93,11 +94,11 @@ module _ {sheet : List ℕ} {count n opened here i : ℕ} (g : Ending sheet coun
     first : drop i rs ≡ get_or rs i end_record ∷ drop (i + 1) rs
     first = drop-cons rs i end_record (present ending_at) ∙ ap (λ (m : ℕ). get_or rs i end_record ∷ drop m rs) (sym (add-one i))
 
-    module _ {byte role after : ℕ} (k : byte ≡ get_or sheet here 0) (r : role ≡ role_of_byte byte) (a : after ≡ open_after_role role opened) where
+    module _ {byte after : ℕ} {role : Role} (k : byte ≡ get_or sheet here 0) (r : role ≡ role_of_byte byte) (a : after ≡ open_after_role role opened) where
       step : records_inside (opened - 1) (drop i rs) ≡ cond (eqb after 0) 0 (suc (records_inside (after - 1) (drop (i + 1) rs)))
       step =
           let back : opened - 1 + 1 ≡ opened = omega (arith, g.some-open) in
-          let now : open_after_role (role_number (role_of (get_or rs i end_record))) (opened - 1 + 1) ≡ after =
+          let now : open_after_role (role_of (get_or rs i end_record)) (opened - 1 + 1) ≡ after =
           ap₂ open_after_role (sym (role-read ending_at k r)) back ∙ sym a in
           ap (records_inside (opened - 1)) first ∙ inside-step (get_or rs i end_record) (drop (i + 1) rs) (opened - 1)
           ∙ ap (λ (m : ℕ). cond (eqb m 0) 0 (suc (records_inside (m - 1) (drop (i + 1) rs)))) now

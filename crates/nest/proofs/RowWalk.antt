@@ -17,7 +17,8 @@ use Rattle.sheet.specs.Nestings.{nesting_of, open_after_as, open_after_kind}
 use Rattle.records.specs.View.{length_of_kind}
 use Rattle.sheet.proofs.Openings.{depth-at-most}
 use Rattle.layout.specs.declared.rows.Row.{Row}
-use Rattle.layout.specs.Rows.{end_numbers, number_room, first_cost, role_number, role_of, row_numbers, second_cost, skip_cost, row_from, row_width}
+use Rattle.layout.specs.declared.rows.Role.{Role}
+use Rattle.layout.specs.Rows.{end_numbers, number_room, first_cost, role_of, row_numbers, second_cost, skip_cost, row_from, row_width}
 use Rattle.layout.specs.Numbers.{joined, stored_in}
 use Rattle.layout.proofs.Reading.{blank_row, row_number, row_next, enclosing-shared}
 use Rattle.layout.proofs.Storing.{stored-none}
@@ -98,7 +99,7 @@ skip-cost next_arm_record body e = refl
 
 -- the row of a record, from what is read at its offset
 pub row_is : {sheet : List ℕ} {count n at : ℕ} (g : RecordAt sheet count n at) {byte : ℕ} → byte ≡ get_or sheet at 0 → {body : List ℕ} → body ≡ body_at sheet at →
-    {role first second skip end loops enclosing frame depth offset : ℕ} {here : Nesting} → role ≡ role_of_byte byte →
+    {role : Role} {first second skip end loops enclosing frame depth offset : ℕ} {here : Nesting} → role ≡ role_of_byte byte →
     first ≡ cost_in byte body 0 → second ≡ cost_in byte body 2 → skip ≡ skip_cost_in byte body → end ≡ end_of_role role n (drop (n + 1) (records_of sheet)) % 2 ^ 16 →
     frame ≡ here.size % 2 ^ 16 → depth ≡ here.depth % 2 ^ 16 → offset ≡ at % 2 ^ 16 →
     (p : Position) → AtPosition p n at loops enclosing here →
@@ -110,14 +111,14 @@ row_is {sheet} {count} {n} {at} g {byte} b {body} bs {role} {first} {second} {sk
     let rest : List Record = drop (n + 1) (records_of sheet) in
     let number : byte ≡ kind_number (kind this) = b ∙ kind-read g in
     let decoded = (stands-there g).decoded in
-    let is-role : role ≡ role_number (role_of this) = role-read g b r in
+    let is-role : role ≡ role_of this = role-read g b r in
     let one : first ≡ first_cost this = f ∙ ap₂ (λ (k : ℕ) (l : List ℕ). cost_in k l 0) number bs ∙ first-cost this (body_at sheet at) decoded in
     let two : second ≡ second_cost this = s ∙ ap₂ (λ (k : ℕ) (l : List ℕ). cost_in k l 2) number bs ∙ second-cost this (body_at sheet at) decoded in
     let passed : skip ≡ skip_cost this = k ∙ ap₂ skip_cost_in number bs ∙ skip-cost this (body_at sheet at) decoded in
     let size : length rest ≡ length (records_of sheet) - (n + 1) = length-drop (n + 1) (records_of sheet) in
     let small : end_number n this rest < 2 ^ 16 = omega (arith, end-inside this rest n, size, few-records sheet, present g) in
     let last : end ≡ end_number p.number this rest =
-    e ∙ ap (λ (m : ℕ). m % 2 ^ 16) (ap (λ (m : ℕ). end_of_role m n rest) is-role ∙ end-by-role this n rest) ∙ mod-eq_of_lt small
+    e ∙ ap (λ (m : ℕ). m % 2 ^ 16) (ap (λ (m : Role). end_of_role m n rest) is-role ∙ end-by-role this n rest) ∙ mod-eq_of_lt small
     ∙ ap (λ (m : ℕ). end_number m this rest) q.number_is in
     let open-now : frame ≡ length p.opens =
     fr ∙ ap (λ (x : Nesting). x.size % 2 ^ 16) q.opens_are ∙ mod-eq_of_lt (let h : length p.opens < 2 ^ 16 = omega (arith, q.few_open) in h) in
@@ -219,7 +220,7 @@ module _ {sheet : List ℕ} {count : ℕ} {before rows : List ℕ} {at loops enc
           ∙ row_next before (take n (rows_of rs)) n (get_or (rows_of rs) n blank_row) long (omega (arith, present laying-at, few-records sheet))
           ∙ ap (λ (l : List Row). stored_in before (joined row_numbers l)) (sym (take-suc (rows_of rs) n blank_row inside) ∙ ap (λ (m : ℕ). take m (rows_of rs)) (sym (add-one n)))
 
-      module _ {rows2 : List ℕ} (stored : rows2 ≡ paste rows (row_from n) (row_numbers row) row_width) {byte role : ℕ}
+      module _ {rows2 : List ℕ} (stored : rows2 ≡ paste rows (row_from n) (row_numbers row) row_width) {byte : ℕ} {role : Role}
           (b : byte ≡ get_or sheet at 0) (r : role ≡ role_of_byte byte) where
         inners-there : InnersKnown rows2 (numbers_through 0 [] (take n rs))
         inners-there =
@@ -231,7 +232,7 @@ module _ {sheet : List ℕ} {count : ℕ} {before rows : List ℕ} {at loops enc
             {long : ℕ} → long ≡ length_of_kind byte → Laying sheet count before rows2 (at + (1 + long)) loops2 enclosing2 here2 (n + 1)
         laying-next {enclosing2} {loops2} e l {here2} h k =
             let now : AtPosition (position_after (take n rs)) n at loops enclosing here = g.position in
-            let known : role ≡ role_number (role_of current) = role-read laying-at b r in
+            let known : role ≡ role_of current = role-read laying-at b r in
             let longer = one_more sheet n (present laying-at) in
             let number : length (take (n + 1) rs) ≡ n + 1 = length-take-le (n + 1) rs (omega (arith, g.all)) in
             let kinds : open_after_kind (opens_through [] (take n rs)) byte ≡ some (opens_through [] (take (n + 1) rs)) =
@@ -248,7 +249,7 @@ module _ {sheet : List ℕ} {count : ℕ} {before rows : List ℕ} {at loops enc
                     l ∙ ap₂ loops_after_role known now.loops_are ∙ loops-by-role current (loops_through 0 (take n rs))
                     ∙ sym (ap (loops_through 0) longer ∙ loops-append (take n rs) (current ∷ []) 0 ∙ (unfold loops_through in refl));
                 enclosing_is =
-                    e ∙ ap₂ (λ (m i : ℕ). enclosing_after_role rows2 m n i) known now.enclosing_is
+                    e ∙ ap₂ (λ (m : Role) (i : ℕ). enclosing_after_role rows2 m n i) known now.enclosing_is
                     ∙ enclosing-by-role rows2 current n (numbers_through 0 [] (take n rs)) inners-there
                     ∙ ap (λ (m : ℕ). innermost (numbers_after m (numbers_through 0 [] (take n rs)) current)) (let z : n ≡ 0 + length (take n rs) = omega (arith, size) in z)
                     ∙ ap innermost (sym (numbers-one-more (take n rs) current 0 []) ∙ ap (numbers_through 0 []) (sym longer));

@@ -7,98 +7,92 @@ ghost use Rattle.layout.specs.Numbers.{stored_in};
 ghost use Rattle.sheet.specs.Sheets.{records_of};
 ghost use Rattle.nest.specs.Rows.{Position, row_at, rows_stored};
 ghost use Rattle.nest.specs.Known.{RecordAt, RecordBefore, AtPosition};
-ghost use Rattle.nest.specs.Roles.{role_of_byte, cost_in, skip_cost_in, open_after_role, end_of_role, loops_after_role, enclosing_after_role};
+ghost use Rattle.nest.specs.Roles.{role_of_byte, cost_in, skip_cost_in, opens, open_after_role, end_of_role, loops_after_role, enclosing_after_role};
 
 use encoding::number::{byte_at, unsigned16_at};
 use layout::narrow;
-use layout::rows::{CHOICE, END, LOOP, NEXT_ARM, Row, Rows, STRAIGHT, enclosing_at, put_row};
+use layout::rows::{Role, Row, Rows, enclosing_at, put_row};
 use records::loops::Loop;
-use records::{body_length, is_loop};
+use records::{Kind, body_length};
 use sheet::head::body_at;
 use sheet::nesting::Nesting;
 
 // The role of a kind's records; what is no kind counts as straight.
-fn role_of(kind: u8) -> u16
+#[tactic(auto, unfolding(crate::specs::Roles::role_of_byte, crate::specs::Roles::role_by, layout::specs::Rows::role_of_kind))]
+fn role_of(kind: u8) -> Role
     ensures { result ≡ role_of_byte kind }
 {
-    if is_loop(kind) {
-        return LOOP;
+    match Kind::of(kind) {
+        Some(Kind::Loop | Kind::SkipLoop) => Role::Loop,
+        Some(Kind::End) => Role::End,
+        Some(Kind::Choice) => Role::Choice,
+        Some(Kind::NextArm) => Role::NextArm,
+        Some(Kind::Work) | None => Role::Straight,
     }
-    if kind == records::END {
-        return END;
-    }
-    if kind == records::CHOICE {
-        return CHOICE;
-    }
-    if kind == records::NEXT_ARM {
-        return NEXT_ARM;
-    }
-    STRAIGHT
 }
 
 // The cost at an offset of a record's body; only works and loops have costs.
+#[tactic(auto, unfolding(crate::specs::Roles::cost_in, crate::specs::Roles::cost_by))]
 fn cost(kind: u8, body: &[u8], at: usize) -> u16
     ensures { result ≡ cost_in kind body.now at }
 {
-    if kind == records::WORK {
-        return unsigned16_at(body, at);
+    match Kind::of(kind) {
+        Some(Kind::Work | Kind::Loop | Kind::SkipLoop) => unsigned16_at(body, at),
+        Some(Kind::End | Kind::Choice | Kind::NextArm) | None => 0,
     }
-    if is_loop(kind) {
-        return unsigned16_at(body, at);
-    }
-    0
 }
 
 // What a loop costs where it makes no trip; 0 of another record.
+#[tactic(auto, unfolding(crate::specs::Roles::skip_cost_in, crate::specs::Roles::skip_cost_by))]
 fn skip_cost(kind: u8, body: &[u8]) -> u16
     ensures { result ≡ skip_cost_in kind body.now }
 {
-    if is_loop(kind) {
-        return Loop::skip_cycles(body, kind == records::SKIP_LOOP);
+    match Kind::of(kind) {
+        Some(Kind::Loop) => Loop::skip_cycles(body, false),
+        Some(Kind::SkipLoop) => Loop::skip_cycles(body, true),
+        Some(Kind::Work | Kind::End | Kind::Choice | Kind::NextArm) | None => 0,
     }
-    0
+}
+
+// Whether a record with this role opens something.
+fn opens(role: Role) -> bool
+    ensures { result ≡ opens role }
+{
+    matches!(role, Role::Loop | Role::Choice)
 }
 
 // How many records are open after one with this role, after so many before it.
-fn open_after(role: u16, opened: usize) -> usize
+#[tactic(auto, unfolding(crate::specs::Roles::open_after_role))]
+fn open_after(role: Role, opened: usize) -> usize
     requires { opened < 2 ^ 16 }
     ensures { result ≡ open_after_role role opened }
 {
-    if role == LOOP {
-        return opened + 1;
+    match role {
+        Role::Loop | Role::Choice => opened + 1,
+        Role::End => opened.saturating_sub(1),
+        Role::Straight | Role::NextArm | Role::Unknown => opened,
     }
-    if role == CHOICE {
-        return opened + 1;
-    }
-    if role != END {
-        return opened;
-    }
-    if opened == 0 { 0 } else { opened - 1 }
 }
 
-// The number of the end of a loop or choice; 0 of another record. The record after it stands at `next`.
-fn end_of(sheet: &[u8], count: usize, number: usize, next: usize, role: u16) -> usize
+// The number of the end of a loop or choice; 0, which its row holds, of another record. The record after it stands at `next`.
+fn end_of(sheet: &[u8], count: usize, number: usize, next: usize, role: Role) -> usize
     requires { RecordBefore sheet.now count number next }
     ensures { result ≡ end_of_role role number (drop (number + 1) (records_of sheet.now)) }
 {
-    if role != LOOP {
-        if role != CHOICE {
-            return 0;
-        }
+    if !opens(role) {
+        return 0;
     }
     let mut opened: usize = 1;
     let mut here = next;
-    let mut i = number + 1;
-    while i < count {
+    for i in number + 1..count {
         let kind = byte_at(sheet, here);
         opened = open_after(role_of(kind), opened);
         if opened == 0 {
             return i;
         }
         here += 1 + body_length(kind);
-        i += 1;
     }
-    i
+    count
 }
 
 // The row of the record with this number, which stands at `at` after so many loops, where `enclosing` and `here` are open.
@@ -122,45 +116,43 @@ fn row_of(
     let role = role_of(kind);
     let end = end_of(sheet, count, number, at + (1 + body.len()), role);
     Row {
-        role: role,
-        first: first,
-        second: second,
+        role,
+        first,
+        second,
         end: narrow(end),
-        enclosing: enclosing,
+        enclosing,
         frame: narrow(here.size),
         depth: narrow(here.depth),
-        loops: loops,
+        loops,
         offset: narrow(at),
-        skip: skip,
+        skip,
     }
 }
 
 // The innermost open record's number plus 1 after a record; an end goes back to what the row of its opener has.
-fn enclosing_after(rows: &Rows, role: u16, number: usize, enclosing: u16) -> u16
+#[tactic(auto, unfolding(crate::specs::Roles::enclosing_after_role))]
+fn enclosing_after(rows: &Rows, role: Role, number: usize, enclosing: u16) -> u16
     requires { number < 2 ^ 15 }
     ensures { result ≡ enclosing_after_role rows.now role number enclosing }
 {
-    if role == LOOP {
-        return narrow(number + 1);
+    match role {
+        Role::Loop | Role::Choice => narrow(number + 1),
+        Role::End if enclosing == 0 => 0,
+        Role::End => enclosing_at(rows, usize::from(enclosing - 1)),
+        Role::Straight | Role::NextArm | Role::Unknown => enclosing,
     }
-    if role == CHOICE {
-        return narrow(number + 1);
-    }
-    if role != END {
-        return enclosing;
-    }
-    if enclosing == 0 {
-        return 0;
-    }
-    enclosing_at(rows, (enclosing - 1) as usize)
 }
 
 // How many loops there are after a record.
-fn loops_after(role: u16, loops: u16) -> u16
+#[tactic(auto, unfolding(crate::specs::Roles::loops_after_role))]
+fn loops_after(role: Role, loops: u16) -> u16
     requires { loops < 2 ^ 15 }
     ensures { result ≡ loops_after_role role loops }
 {
-    if role == LOOP { loops + 1 } else { loops }
+    match role {
+        Role::Loop => loops + 1,
+        _ => loops,
+    }
 }
 
 // Stores the rows of all records.
@@ -172,17 +164,14 @@ pub fn lay_rows(sheet: &[u8], count: usize, rows: &mut Rows)
     let mut loops: u16 = 0;
     let mut enclosing: u16 = 0;
     let mut here = Nesting::nothing();
-    let mut number: usize = 0;
-    while number < count {
+    for number in 0..count {
         let kind = byte_at(sheet, at);
         let role = role_of(kind);
         let row = row_of(sheet, count, number, at, loops, enclosing, here);
         put_row(rows, number, row);
         enclosing = enclosing_after(rows, role, number, enclosing);
         loops = loops_after(role, loops);
-        let after = here.after(kind);
-        here = after;
+        here = here.after(kind);
         at += 1 + body_length(kind);
-        number += 1;
     }
 }

@@ -1,16 +1,14 @@
--- The invariant: the record is still open before record `i`, and the records from there on settle where it ends. The measure: the records left.
+-- The invariant: the record is still open before record `i`, and the records from there on settle where it ends.
 use native.Mathlib.Omega.{arith}
-use mathlib.Core.Path.{◌∙◌}
-use Rattle.nest.proofs.Roles.{opens-loop, opens-choice, opens-nothing, ends-if, ends-not}
+use mathlib.Core.Path.{sym, ◌∙◌}
+use Rattle.nest.specs.Roles.{end_of_role}
 use Rattle.nest.proofs.Endings.{ending-start, ending-done, ending-few, ending_at, ending-found, ending-next, next-by-kind, next-inside}
 use Prim.Native.Nat.{◌+◌, ◌^◌, ◌<◌}
-use Rattle.nest.proofs.end_of.Goals.{then-role-ne-LOOP+else-role-ne-CHOICE, else-role-ne-LOOP}
 use Rattle.nest.proofs.end_of.Goals as goal
 
-pub returns-then-role-ne-CHOICE : goal.returns-then-role-ne-CHOICE
-returns-then-role-ne-CHOICE c =
-    let role = c.args.role in
-    ends-not role _ _ (opens-nothing role c.if-role-ne-LOOP.true c.if-role-ne-CHOICE.true)
+pub returns-then-not-opens : goal.returns-then-not-opens
+unfolding end_of_role
+returns-then-not-opens c = let closed = sym c.opens.ensures ∙ c.if-not-opens.true in rw closed
 
 pub loop-i-init : goal.loop-i-init
 loop-i-init c = ending-start c.requires
@@ -19,13 +17,10 @@ pub open_after-opened-requires : goal.open_after-opened-requires
 open_after-opened-requires c = let few = ending-few c.loop-i.invariant in omega arith
 
 pub returns-then-opened-eq0 : goal.returns-then-opened-eq0
+unfolding end_of_role
 returns-then-opened-eq0 c =
-    ending-found c.loop-i.invariant c.loop-i-test.true c.byte_at-kind.ensures c.role_of.ensures
-    c.open_after-opened.ensures c.if-opened-eq0.true
-    ∙ ends-if c.args.role _ _ (elim c.if-role-ne-LOOP.branch [
-      | then-role-ne-LOOP+else-role-ne-CHOICE w ↦ opens-choice c.args.role w.if-role-ne-CHOICE.false
-      | else-role-ne-LOOP w ↦ opens-loop c.args.role w.if-role-ne-LOOP.false
-    ])
+    let opening = sym c.opens.ensures ∙ c.if-not-opens.false in
+    rw opening (ending-found c.loop-i.invariant c.loop-i-test.true c.byte_at-kind.ensures c.role_of.ensures c.open_after-opened.ensures c.if-opened-eq0.true)
 
 -- the offset of the next record
 module _ (c : goal.After-body_length) where
@@ -50,7 +45,7 @@ loop-i-preserved c =
     c.role_of.ensures c.open_after-opened.ensures c.if-opened-eq0.false c.body_length.ensures
 
 pub returns : goal.returns
-returns c = ending-done c.loop-i.invariant c.loop-i-test.false ∙ ends-if c.args.role _ _ (elim c.if-role-ne-LOOP.branch [
-  | then-role-ne-LOOP+else-role-ne-CHOICE w ↦ opens-choice c.args.role w.if-role-ne-CHOICE.false
-  | else-role-ne-LOOP w ↦ opens-loop c.args.role w.if-role-ne-LOOP.false
-])
+unfolding end_of_role
+returns c =
+    let opening = sym c.opens.ensures ∙ c.if-not-opens.false in
+    rw opening (omega (arith, ending-done c.loop-i.invariant c.loop-i-test.false, c.loop-i.invariant.so_far))

@@ -37,7 +37,7 @@ pub loop-number-preserved : goal.loop-number-preserved
 loop-number-preserved c =
     let row = c.row_of-row.ensures _ c.loop-number.invariant.position in
     laying-next c.loop-number.invariant c.loop-number-test.true row c.put_row.ensures c.byte_at-kind.ensures c.role_of-role.ensures
-    c.enclosing_after-enclosing.ensures c.loops_after-loops.ensures c.after-after.ensures.«open» c.body_length.ensures
+    c.enclosing_after-enclosing.ensures c.loops_after-loops.ensures c.after-here.ensures.«open» c.body_length.ensures
 
 pub returns : goal.returns
 returns c = laying-done c.loop-number.invariant c.loop-number-test.false
