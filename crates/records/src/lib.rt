@@ -74,11 +74,10 @@ impl Record {
     pub fn blank(kind: u8) -> Record
         ensures { result ≡ blank_record kind }
     {
-        let looping = Loop::blank();
         Record {
             kind: kind,
-            work: Work { least: 0, most: 0 },
-            looping: looping,
+            work: Work::blank(),
+            looping: Loop::blank(),
         }
     }
 

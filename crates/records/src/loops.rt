@@ -99,13 +99,12 @@ impl Loop {
     pub fn blank() -> Loop
         ensures { result ≡ blank_loop }
     {
-        let form = PackedForm::blank();
         Loop {
             start: 0,
             step: 0,
             stride: 0,
-            lower: form,
-            upper: form,
+            lower: PackedForm::blank(),
+            upper: PackedForm::blank(),
             skip: 0,
         }
     }

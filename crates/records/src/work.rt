@@ -1,7 +1,7 @@
 // The work kind: its fields, and their range as a named constant.
 ghost use Rattle.std.specs.Prelude.{◌≡◌, List};
 ghost use Rattle.meaning.specs.Record.{work_kind, decode_record, Open, fields_in_range};
-ghost use Rattle.records.specs.View.{work_of};
+ghost use Rattle.records.specs.View.{blank_work, work_of};
 
 use encoding::number::unsigned16_at;
 
@@ -15,6 +15,12 @@ impl Work {
     pub const MAX_MOST: u16 = 4095;
 
     pub const BODY_LENGTH: usize = 4;
+
+    pub fn blank() -> Work
+        ensures { result ≡ blank_work }
+    {
+        Work { least: 0, most: 0 }
+    }
 
     pub fn decode(body: &[u8]) -> Work
         ensures { work_of result ≡ decode_record work_kind body.now }

@@ -12,11 +12,10 @@ use lib.ListN.{length}
 use lib.Dec.{leb, ltb, eqb}
 use Rattle.meaning.specs.Limits.{depth_limit, open_limit}
 use Rattle.meaning.specs.Record.{Kind, kind_of, decode_record, Open, open_loop, open_choice, loop_depth, open_after}
-use Rattle.meaning.proofs.Logic.{T_and, T→true, none-is-not-some, test-passed, true-is-not-false}
+use Rattle.meaning.proofs.Logic.{T_and, T→true, none-is-not-some, test-passed}
 use Rattle.sheet.specs.declared.nesting.Nesting.{Nesting}
 use Rattle.sheet.specs.Nestings.{loop_digit, loop_bits, nesting_of, open_after_as, open_after_kind, is_there, may_stand}
 use Rattle.sheet.specs.Nestings.{extended_nesting, closed_nesting, nesting_after_as, nesting_after, may_stand_in_as, may_stand_in}
-use Rattle.records.specs.View.{is_loop_kind, is_loop}
 use Rattle.records.proofs.ByKind.{by_kind}
 
 -- ---- the numbers of what is open
@@ -171,14 +170,6 @@ after_is {n} os {us} e =
     (λ a. let h = after-loop os us a in extended-is os open_loop e digit-loop h.0 ∙ ap nesting_of h.1)
     (λ m _ a. e ∙ ap nesting_of (some-injective a))
 
--- the numbers after a record that opens and closes nothing
-pub after-other : (n : Nesting) {kind : ℕ} → is_loop kind ≡ false → (kind ≡ 4 → ⊥) → (kind ≡ 3 → ⊥) → n ≡ nesting_after n kind
-unfolding nesting_after nesting_after_as is_loop_kind
-after-other n {kind} =
-    by_kind (λ (m : ℕ) (k : Option Kind). is_loop_kind k ≡ false → (m ≡ 4 → ⊥) → (m ≡ 3 → ⊥) → n ≡ nesting_after_as n k)
-    (λ _ _ _. refl) (λ h _ _. true-is-not-false h) (λ _ _ h. absurd (h refl)) (λ _ h _. absurd (h refl)) (λ _ _ _. refl) (λ h _ _. true-is-not-false h)
-    (λ m _ _ _ _. refl) kind
-
 -- ---- whether a record may stand
 
 there-if : {A : Type 0} (b : Bool) (a : A) → is_there (cond b (some a) none) ≡ b
@@ -218,12 +209,3 @@ may-stand-is {n} os e =
     may-loop =
         (λ i. ltb (depth_is os e i) depth_limit && ltb (size_is os e i) open_limit)
         ∙ sym (there-if (ltb (loop_depth os) depth_limit && ltb (length os) open_limit) (open_loop ∷ os))
-
--- a work may stand anywhere
-pub allows-other : (n : Nesting) {kind : ℕ} → is_loop kind ≡ false → (kind ≡ 4 → ⊥) → (kind ≡ 3 → ⊥) → (kind ≡ 5 → ⊥) → true ≡ may_stand_in n kind
-unfolding may_stand_in may_stand_in_as is_loop_kind
-allows-other n {kind} =
-    by_kind (λ (m : ℕ) (k : Option Kind). is_loop_kind k ≡ false → (m ≡ 4 → ⊥) → (m ≡ 3 → ⊥) → (m ≡ 5 → ⊥) → true ≡ may_stand_in_as n k)
-    (λ _ _ _ _. refl) (λ h _ _ _. true-is-not-false h) (λ _ _ h _. absurd (h refl)) (λ _ h _ _. absurd (h refl)) (λ _ _ _ h. absurd (h refl))
-    (λ h _ _ _. true-is-not-false h) (λ m _ _ _ _ _. refl)
-    kind

@@ -2,7 +2,7 @@
 use mathlib.Core.Path.{◌≡◌, sym, ap, subst, ◌∙◌}
 use mathlib.Core.List.{List, [], ◌∷◌, ◌++◌}
 use mathlib.Core.Bool.{Bool, true, false}
-use mathlib.Core.Option.{Option, some}
+use mathlib.Core.Option.{Option, none, some}
 use Prim.Native.Nat.{ℕ, ◌+◌}
 use native.Mathlib.Omega.{arith}
 use lib.ListN.{take}
@@ -16,9 +16,8 @@ use Rattle.meaning.proofs.RecordBytes.{kind_number-kind_of}
 use Rattle.encoding.specs.Append.{Appended}
 use Rattle.encoding.proofs.Appending as bytes
 use Rattle.records.specs.declared.Record.{Record}
-use Rattle.records.specs.View.{is_kind, raw_record_of}
+use Rattle.records.specs.View.{raw_record_of}
 use Rattle.sheet.specs.Answers.{accepted_of}
-use Rattle.sheet.proofs.Heads.{no_kind}
 use Rattle.writer.specs.Writing.{RecordLaid}
 use Rattle.writer.proofs.Fits.{RecordFits}
 use Rattle.writer.proofs.Given.{given_back, decoded-back, body-long, kind-given}
@@ -30,9 +29,9 @@ module _ (at : ℕ) (os : List Open) (item : Record) where
   abbrev with-kind : Option Kind → Result Accepted
   with-kind o = and_then (or_refuse o 2 at) λ k. require (foreign_fields_zero k (raw_record_of item)) 3 at (accept at os (record_of k (raw_record_of item)))
 
-  pub check-no-kind : is_kind item.kind ≡ false → refused 2 at ≡ accepted_of checked
+  pub check-no-kind : kind_of item.kind ≡ none → refused 2 at ≡ accepted_of checked
   unfolding check_record and_then or_refuse accepted_of
-  check-no-kind h = sym (ap (λ (o : Option Kind). accepted_of (with-kind o)) (no_kind item.kind h))
+  check-no-kind h = sym (ap (λ (o : Option Kind). accepted_of (with-kind o)) h)
 
   -- a record that is refused is not laid
   pub not-laid : {X : Type 0} {number place : ℕ} → refused number place ≡ accepted_of checked → {a : Accepted} → checked ≡ ok a → X

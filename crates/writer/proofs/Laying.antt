@@ -5,7 +5,7 @@ use Prim.Native.Nat.{ℕ, ◌+◌, ◌*◌, ◌<◌, ◌≤◌}
 use native.Mathlib.Numerals.{add-one}
 use native.Mathlib.Omega.{arith}
 use lib.ListN.{length, get_or, take, drop, length-map, get_or-map, drop_of_length-le}
-use lib.Seq.{length-take-le, take-suc, drop-cons, get_or-take}
+use lib.Seq.{take-suc, take_all, drop-cons}
 use Rattle.meaning.specs.Limits.{record_limit, record_length_limit, sheet_length_limit}
 use Rattle.meaning.specs.Record as M
 use Rattle.meaning.specs.Record.{record_length, record_bytes, sheet_length, sheet_bytes, Open}
@@ -35,70 +35,67 @@ pub not-measured : {X : Type 0} {number place : ℕ} (x : Result (List M.Record)
 unfolding measured
 not-measured x e q = refused-is-not-ok (e ∙ ap measured q)
 
--- the first count records, as the meaning's writer takes them
-abbrev entries : List Record → ℕ → List RawRecord
-entries records count = take count (map raw_record_of records)
+-- the records, as the meaning's writer takes them
+abbrev entries : List Record → List RawRecord
+entries items = map raw_record_of items
 
 -- ---- the loop's state
 
--- the records before the one with this number are laid before at, os is open there
-pub record Laying (records : List Record) (count : ℕ) (sheet : List ℕ) (at number : ℕ) (here : Nesting) : Type 0 where
+-- the first `number` records are laid before at, os is open there
+pub record Laying (items : List Record) (sheet : List ℕ) (at number : ℕ) (here : Nesting) : Type 0 where
   pub done : List M.Record
   pub os : List Open
   pub opens : here ≡ nesting_of os
-  pub so_far : number ≤ count
-  pub few : count ≤ record_limit
-  pub all : length records ≡ record_limit
+  pub so_far : number ≤ length items
+  pub few : length items ≤ record_limit
   pub room : length sheet ≡ sheet_length_limit
   pub near : at ≤ record_length_limit * number
   pub offset : at ≡ sheet_length done
-  pub given : map record_in done ≡ take number records
+  pub given : map record_in done ≡ take number items
   pub stored : take at sheet ≡ sheet_bytes done
-  pub leaves : check_from 0 [] (entries records count) ≡ prepend done (check_from at os (drop number (entries records count)))
+  pub leaves : check_from 0 [] (entries items) ≡ prepend done (check_from at os (drop number (entries items)))
 
-pub laying-start : (records : List Record) {count : ℕ} (sheet : List ℕ) {here : Nesting}
-    → count ≤ record_limit → length records ≡ record_limit → length sheet ≡ sheet_length_limit
-    → here ≡ nesting_of [] → Laying records count sheet 0 0 here
+pub laying-start : (items : List Record) (sheet : List ℕ) {here : Nesting}
+    → length items ≤ record_limit → length sheet ≡ sheet_length_limit
+    → here ≡ nesting_of [] → Laying items sheet 0 0 here
 unfolding sheet_length sheet_bytes
-laying-start records {count} sheet few all room e =
+laying-start items sheet few room e =
     record {
       done = [];
       os = [];
       opens = e;
       so_far = omega arith;
       few = few;
-      all = all;
       room = room;
       near = omega arith;
       offset = refl;
       given = refl;
       stored = refl;
-      leaves = prepend-none (check_from 0 [] (entries records count));
+      leaves = prepend-none (check_from 0 [] (entries items));
     }
 
-module _ {records : List Record} {count : ℕ} {sheet : List ℕ} {at number : ℕ} {here : Nesting} (g : Laying records count sheet at number here) where
+module _ {items : List Record} {sheet : List ℕ} {at number : ℕ} {here : Nesting} (g : Laying items sheet at number here) where
   abbrev whole : Result (List M.Record)
-  whole = check_from 0 [] (entries records count)
+  whole = check_from 0 [] (entries items)
 
-  entries-long : length (entries records count) ≡ count
-  entries-long = length-take-le count (map raw_record_of records) (omega (arith, length-map records raw_record_of, g.all, g.few))
+  entries-long : length (entries items) ≡ length items
+  entries-long = length-map items raw_record_of
 
-  module _ (more : number < count) (none : Record) where
+  module _ (more : number < length items) (none : Record) where
     abbrev item : Record
-    item = get_or records number none
+    item = get_or items number none
 
     abbrev checked : Result Accepted
     checked = check_record at g.os (raw_record_of item)
 
     abbrev others : Accepted → Result (List M.Record)
-    others a = check_from (at + record_length a.accepted) a.after (drop (number + 1) (entries records count))
+    others a = check_from (at + record_length a.accepted) a.after (drop (number + 1) (entries items))
 
-    split : drop number (entries records count) ≡ raw_record_of item ∷ drop (number + 1) (entries records count)
+    split : drop number (entries items) ≡ raw_record_of item ∷ drop (number + 1) (entries items)
     split =
-        let inside : number < length (entries records count) = omega (arith, entries-long) in
-        let first : get_or (entries records count) number (raw_record_of none) ≡ raw_record_of item =
-        get_or-take count (map raw_record_of records) number (raw_record_of none) more ∙ get_or-map raw_record_of records number none in
-        drop-cons (entries records count) number (raw_record_of none) inside ∙ (λ i. first i ∷ drop (sym (add-one number) i) (entries records count))
+        let inside : number < length (entries items) = omega (arith, entries-long) in
+        drop-cons (entries items) number (raw_record_of none) inside
+        ∙ (λ i. get_or-map raw_record_of items number none i ∷ drop (sym (add-one number) i) (entries items))
 
     -- the records laid, then this one, then the others
     abbrev from-this : Result Accepted → Result (List M.Record)
@@ -120,7 +117,7 @@ module _ {records : List Record} {count : ℕ} {sheet : List ℕ} {at number : �
 
       module _ {after : List ℕ} (long : length after ≡ length sheet)
           (laid : (a : Accepted) → checked ≡ ok a → RecordLaid item at a.accepted sheet after) where
-        pub laying-next : Laying records count after (at + p.length) (number + 1) p.after
+        pub laying-next : Laying items after (at + p.length) (number + 1) p.after
         unfolding and_then
         laying-next =
             let s = kept-accepted checked e in
@@ -128,8 +125,8 @@ module _ {records : List Record} {count : ℕ} {sheet : List ℕ} {at number : �
             let r : M.Record = a.accepted in
             let far : p.length ≡ record_length r = ap (λ (x : AcceptedRecord). x.length) s.2 in
             let l = laid a s.1 in
-            let longer : take (number + 1) records ≡ take number records ++ (item ∷ []) =
-            ap (λ (n : ℕ). take n records) (add-one number) ∙ take-suc records number none (omega (arith, g.all, g.few)) in
+            let longer : take (number + 1) items ≡ take number items ++ (item ∷ []) =
+            ap (λ (n : ℕ). take n items) (add-one number) ∙ take-suc items number none more in
             let onward : whole ≡ prepend (g.done ++ (r ∷ [])) (others a) = one-checked ∙ ap from-this s.1 ∙ prepend-one g.done r (others a) in
             record {
               done = g.done ++ (r ∷ []);
@@ -137,7 +134,6 @@ module _ {records : List Record} {count : ℕ} {sheet : List ℕ} {at number : �
               opens = ap (λ (x : AcceptedRecord). x.after) s.2;
               so_far = omega arith;
               few = g.few;
-              all = g.all;
               room = long ∙ g.room;
               near = laying-near;
               offset = (λ i. g.offset i + far i) ∙ sym (length-one-more g.done r);
@@ -145,15 +141,15 @@ module _ {records : List Record} {count : ℕ} {sheet : List ℕ} {at number : �
               stored = ap (λ (n : ℕ). take (at + n) after) far ∙ l.stored ∙ ap (λ (x : List ℕ). x ++ record_bytes r) g.stored
                   ∙ sym (bytes-one-more g.done r);
               leaves = onward
-                  ∙ ap (λ (n : ℕ). prepend (g.done ++ (r ∷ [])) (check_from (at + n) a.after (drop (number + 1) (entries records count)))) (sym far);
+                  ∙ ap (λ (n : ℕ). prepend (g.done ++ (r ∷ [])) (check_from (at + n) a.after (drop (number + 1) (entries items)))) (sym far);
             }
 
-  module _ (end : count ≤ number) where
+  module _ (end : length items ≤ number) where
     all-checked : whole ≡ prepend g.done (end_of_sheet at g.os [])
     unfolding check_from
     all-checked =
-        let past : length (entries records count) ≤ number = omega (arith, entries-long) in
-        g.leaves ∙ ap (λ (l : List RawRecord). prepend g.done (check_from at g.os l)) (drop_of_length-le (entries records count) past)
+        let past : length (entries items) ≤ number = omega (arith, entries-long) in
+        g.leaves ∙ ap (λ (l : List RawRecord). prepend g.done (check_from at g.os l)) (drop_of_length-le (entries items) past)
 
     pub laying-open : (here.size ≡ 0 → ⊥) → refused 5 at ≡ measured whole
     unfolding end_of_sheet prepend measured
@@ -176,12 +172,11 @@ module _ {records : List Record} {count : ℕ} {sheet : List ℕ} {at number : �
       unfolding measured
       laying-done = ap {B = Result ℕ} ok g.offset ∙ sym (ap measured all_laid)
 
-      pub laying-laid : {rs : List M.Record} → whole ≡ ok rs → SheetLaid records count rs sheet
+      pub laying-laid : {rs : List M.Record} → whole ≡ ok rs → SheetLaid items rs sheet
       laying-laid {rs} e =
           let same : g.done ≡ rs = ok-injective (sym all_laid ∙ e) in
-          let last : number ≡ count = omega (arith, g.so_far) in
           record {
-            given = ap (map record_in) (sym same) ∙ g.given ∙ ap (λ (n : ℕ). take n records) last;
+            given = ap (map record_in) (sym same) ∙ g.given ∙ take_all number items end;
             stored = ap (λ (n : ℕ). take n sheet) (ap sheet_length (sym same) ∙ sym g.offset) ∙ g.stored ∙ ap sheet_bytes same;
             fits = omega (arith, g.near, g.few, g.offset, g.so_far, ap sheet_length same);
           }

@@ -19,14 +19,12 @@ use Rattle.meaning.proofs.LongerSheets.{written-as-before}
 use Rattle.meaning.proofs.Written.{write-ok}
 use Rattle.encoding.specs.Append.{Appended}
 use Rattle.encoding.proofs.Appending.{from_start, length-written}
+use Rattle.std.proofs.lemmas.List.{take-map}
 use Rattle.records.specs.declared.Record.{Record}
 use Rattle.records.specs.View.{blank_record, raw_record_of, record_in}
 use Rattle.sheet.specs.Answers.{counted, with_blanks}
 use Rattle.sheet.specs.Sheets.{records_in}
 use Rattle.writer.specs.Writing.{measured, SheetLaid}
-use Rattle.writer.specs.Answers.{write_result}
-use Rattle.writer.specs.declared.WriteAnswer.{WriteAnswer}
-use Rattle.writer.specs.declared.WriteAnswer.TheVariants as answers
 
 -- ---- a measured result
 
@@ -40,19 +38,18 @@ unfolding measured
 measured-ok (ok rs) e = (rs, refl, ok-injective e)
 measured-ok (refused m p) e = refused-is-not-ok (sym e)
 
--- an answer that is no length is a refusal
-pub refused-answer : (a : WriteAnswer) → ((n : ℕ) → a ≡ answers.Length n → ⊥) → (number : ℕ) × (place : ℕ) × (write_result a ≡ refused number place)
-refused-answer (answers.Length n) never = absurd (never n refl)
-refused-answer (answers.Refused r) never = (r.number, r.offset, refl)
-
 -- ---- the writer
 
 module _ (records : List Record) (count : ℕ) (buffer : List ℕ) where
   abbrev outcome : Written
   outcome = write (map raw_record_of records) count buffer
 
+  -- the records that are written
+  abbrev items : List Record
+  items = take count records
+
   abbrev whole : Result (List M.Record)
-  whole = check_from 0 [] (take count (map raw_record_of records))
+  whole = check_from 0 [] (map raw_record_of items)
 
   -- reading the first n bytes gives the records back
   abbrev Undone : List ℕ → ℕ → Type 0
@@ -69,36 +66,40 @@ module _ (records : List Record) (count : ℕ) (buffer : List ℕ) where
 
   pub too_many : record_limit < count → Promised (refused 4 0) buffer
   unfolding write_up_to check_up_to require and_then
-  too_many h = refusal (ap (λ (b : Bool). store buffer (and_then (require b 4 0 whole) (fit_sheet buffer))) (lt-leb count record_limit h))
+  too_many h =
+      refusal (ap (λ (b : Bool). store buffer (and_then (require b 4 0 (check_from 0 [] (take count (map raw_record_of records)))) (fit_sheet buffer)))
+      (lt-leb count record_limit h))
+
+  -- the meaning takes the first of the entries, and the code the entries of the first records
+  first-entries : check_from 0 [] (take count (map raw_record_of records)) ≡ whole
+  first-entries = ap (check_from 0 []) (take-map raw_record_of count records)
 
   module _ (few : count ≤ record_limit) where
     with-check : {x : Result (List M.Record)} → whole ≡ x → outcome ≡ store buffer (and_then x (fit_sheet buffer))
     unfolding write_up_to check_up_to
     with-check e =
-        ap (λ (y : Result (List M.Record)). store buffer (and_then y (fit_sheet buffer))) (require-yes (leb count record_limit) 4 0 whole (le→leb count record_limit few) ∙ e)
+        ap (λ (y : Result (List M.Record)). store buffer (and_then y (fit_sheet buffer))) (require-yes (leb count record_limit) 4 0 _ (le→leb count record_limit few) ∙ first-entries ∙ e)
 
     pub not-laid-out : {number place : ℕ} → refused number place ≡ measured whole → Promised (refused number place) buffer
     unfolding and_then
     not-laid-out e = refusal (with-check (measured-refused whole e))
 
     module _ (all : length records ≡ record_limit) {sheet : List ℕ} (long : length sheet ≡ sheet_length_limit)
-        (laid : (rs : List M.Record) → whole ≡ ok rs → SheetLaid records count rs sheet) {n : ℕ} (e : ok n ≡ measured whole) where
+        (laid : (rs : List M.Record) → whole ≡ ok rs → SheetLaid items rs sheet) {n : ℕ} (e : ok n ≡ measured whole) where
       abbrev rs : List M.Record
       rs = (measured-ok whole e).0
 
-      is-laid : SheetLaid records count rs sheet
+      is-laid : SheetLaid items rs sheet
       is-laid = laid rs (measured-ok whole e).1
 
       pub length-fits : n ≤ sheet_length_limit
       length-fits = omega (arith, (measured-ok whole e).2, is-laid.fits)
 
-      part-is : take (n - 0) sheet ≡ sheet_bytes rs
-      part-is =
-          let m : n - 0 ≡ sheet_length rs = omega (arith, (measured-ok whole e).2) in
-          ap (λ (x : ℕ). take x sheet) m ∙ is-laid.stored
+      part-is : take n sheet ≡ sheet_bytes rs
+      part-is = ap (λ (x : ℕ). take x sheet) (measured-ok whole e).2 ∙ is-laid.stored
 
-      part-long : length (take (n - 0) sheet) ≡ n
-      part-long = length-take-le (n - 0) sheet (omega (arith, length-fits)) ∙ omega arith
+      part-long : length (take n sheet) ≡ n
+      part-long = length-take-le n sheet (omega (arith, length-fits))
 
       size : n ≡ length (sheet_bytes rs)
       size = sym part-long ∙ ap (λ (l : List ℕ). length l) part-is
@@ -119,7 +120,7 @@ module _ (records : List Record) (count : ℕ) (buffer : List ℕ) where
             ∙ ap (λ (b : Bool). store buffer (require b 9 0 (ok (sheet_bytes rs)))) (le-leb (length (sheet_bytes rs)) (length buffer) yes)
 
         -- the sheet is put at the buffer's start
-        module _ {left : List ℕ} {m : ℕ} (copied : Appended buffer 0 (take (n - 0) sheet) left m) where
+        module _ {left : List ℕ} {m : ℕ} (copied : Appended buffer 0 (take n sheet) left m) where
           answer-is : ok m ≡ outcome.result
           unfolding store
           answer-is = ap {B = Result ℕ} ok (length-written copied ∙ part-long ∙ size) ∙ sym (ap (λ (w : Written). w.result) stored)
@@ -133,7 +134,7 @@ module _ (records : List Record) (count : ℕ) (buffer : List ℕ) where
           unfolding check_up_to counted with_blanks records_in
           undone j q =
               let w = write-ok (map raw_record_of records) count buffer j (sym answer-is ∙ q) in
-              let checked : whole ≡ ok w.written = (require-ok (leb count record_limit) 4 0 whole w.written w.checked).1 in
+              let checked : whole ≡ ok w.written = sym first-entries ∙ (require-ok (leb count record_limit) 4 0 _ w.written w.checked).1 in
               let given : map record_in w.written ≡ take count records = (laid w.written checked).given in
               let same : length w.written ≡ count =
               sym (length-map w.written record_in) ∙ ap (λ (l : List Record). length l) given ∙ length-take-le count records (omega (arith, all)) in

@@ -1,20 +1,19 @@
 // A record's body, put at a position of a buffer; the answer is the position after it.
 ghost use Rattle.std.specs.Prelude.{◌≡◌, false, ◌+◌, ◌≤◌, length};
-ghost use Rattle.std.proofs.Math.Option.{some};
 ghost use Rattle.meaning.specs.Form.{form_bytes};
-ghost use Rattle.meaning.specs.Record.{Kind, kind_of, loop_record, body_bytes};
+ghost use Rattle.meaning.specs.Record.{loop_record, body_bytes};
 ghost use Rattle.meaning.specs.Writer.{record_of};
 ghost use Rattle.encoding.specs.Append.{Appended};
 ghost use Rattle.form.specs.Packed.{form_of};
 ghost use Rattle.meaning.specs.Limits.{body_limit};
-ghost use Rattle.records.specs.View.{work_of, loop_of, raw_record_of};
+ghost use Rattle.records.specs.View.{meant_kind, work_of, loop_of, raw_record_of};
 
 use encoding::pattern::{pattern8, pattern16, two_bytes};
 use encoding::put::{put, put_unsigned16};
 use form::packed::PackedForm;
 use records::loops::Loop;
 use records::work::Work;
-use records::{Record, SKIP_LOOP, WORK, is_loop};
+use records::{Kind, Record};
 
 const FORM_LENGTH: usize = 9;
 
@@ -22,17 +21,20 @@ const FORM_LENGTH: usize = 9;
 fn form_bytes(form: PackedForm) -> [u8; FORM_LENGTH]
     ensures { result ≡ form_bytes (form_of form) }
 {
-    let constant = two_bytes(pattern16(form.constant));
-    let index = form.index;
-    let parameter = form.parameter;
-    let i1 = pattern8(index[0]);
-    let i2 = pattern8(index[1]);
-    let i3 = pattern8(index[2]);
-    let p1 = pattern8(parameter[0]);
-    let p2 = pattern8(parameter[1]);
-    let p3 = pattern8(parameter[2]);
-    let p4 = pattern8(parameter[3]);
-    [constant[0], constant[1], i1, i2, i3, p1, p2, p3, p4]
+    let [low, high] = two_bytes(pattern16(form.constant));
+    let [i1, i2, i3] = form.index;
+    let [p1, p2, p3, p4] = form.parameter;
+    [
+        low,
+        high,
+        pattern8(i1),
+        pattern8(i2),
+        pattern8(i3),
+        pattern8(p1),
+        pattern8(p2),
+        pattern8(p3),
+        pattern8(p4),
+    ]
 }
 
 fn put_work(buffer: &mut [u8], at: usize, fields: Work) -> usize
@@ -48,20 +50,15 @@ fn put_plain_loop(buffer: &mut [u8], at: usize, fields: Loop) -> usize
     requires { at + body_limit ≤ length buffer.old }
     ensures { Appended buffer.old at (body_bytes (loop_record (loop_of false fields))) buffer.new result }
 {
-    let stride = pattern16(fields.stride);
     let at = put_unsigned16(buffer, at, fields.start);
     let at = put_unsigned16(buffer, at, fields.step);
-    let at = put_unsigned16(buffer, at, stride);
-    let lower = fields.lower;
-    let upper = fields.upper;
-    let first = form_bytes(lower);
-    let second = form_bytes(upper);
-    let at = put(buffer, at, &first);
-    put(buffer, at, &second)
+    let at = put_unsigned16(buffer, at, pattern16(fields.stride));
+    let at = put(buffer, at, &form_bytes(fields.lower));
+    put(buffer, at, &form_bytes(fields.upper))
 }
 
 // A skip stands after what a loop without one has.
-pub(crate) fn put_loop(buffer: &mut [u8], at: usize, fields: Loop, skips: bool) -> usize
+fn put_loop(buffer: &mut [u8], at: usize, fields: Loop, skips: bool) -> usize
     requires { at + body_limit ≤ length buffer.old }
     ensures { Appended buffer.old at (body_bytes (loop_record (loop_of skips fields))) buffer.new result }
 {
@@ -72,19 +69,16 @@ pub(crate) fn put_loop(buffer: &mut [u8], at: usize, fields: Loop, skips: bool) 
     at
 }
 
-// The body that the fields of a record's kind make.
-pub(crate) fn put_body(buffer: &mut [u8], at: usize, item: Record) -> usize
+// The body that the fields of a kind make.
+#[tactic(auto, unfolding(meaning::specs::Writer::record_of, meaning::specs::Writer::loop_in, meaning::specs::Record::body_bytes), using(encoding::proofs::Appending::nothing))]
+pub(crate) fn put_body(buffer: &mut [u8], at: usize, kind: Kind, item: Record) -> usize
     requires { at + body_limit ≤ length buffer.old }
-    ensures { (k : Kind) → kind_of item.kind ≡ some k →
-        Appended buffer.old at (body_bytes (record_of k (raw_record_of item))) buffer.new result }
+    ensures { Appended buffer.old at (body_bytes (record_of (meant_kind kind) (raw_record_of item))) buffer.new result }
 {
-    if item.kind == WORK {
-        let work = item.work;
-        return put_work(buffer, at, work);
+    match kind {
+        Kind::Work => put_work(buffer, at, item.work),
+        Kind::Loop => put_loop(buffer, at, item.looping, false),
+        Kind::SkipLoop => put_loop(buffer, at, item.looping, true),
+        Kind::End | Kind::Choice | Kind::NextArm => at,
     }
-    if is_loop(item.kind) {
-        let looping = item.looping;
-        return put_loop(buffer, at, looping, item.kind == SKIP_LOOP);
-    }
-    at
 }

@@ -1,10 +1,6 @@
--- The invariant: the first `number` records are laid before `at`, and the others settle the rest. The measure is how many are left.
-use Prim.Native.Nat.{◌-◌}
+-- The invariant: the records before this one are laid before `at`, and the others settle the rest.
 use Rattle.writer.proofs.Laying.{Laying}
 use Rattle.writer.proofs.lay_out.Given as goal
 
-abbrev pub invariant-loop-number : goal.invariant-loop-number
-invariant-loop-number l = Laying l.records l.count l.sheet l.at l.number l.here
-
-abbrev pub decreases-loop-number : goal.decreases-loop-number
-decreases-loop-number l = l.count - l.number
+abbrev pub invariant-loop-item : goal.invariant-loop-item
+invariant-loop-item l = Laying l.items l.sheet l.at l.item-index l.here

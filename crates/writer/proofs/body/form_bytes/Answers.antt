@@ -5,7 +5,7 @@ use Rattle.writer.proofs.body.form_bytes.Goals as goal
 
 pub returns : goal.returns
 returns c =
-    form-bytes (form-fits c.args.form _ c.well_formed.0) c.pattern16.ensures c.two_bytes-constant.ensures
-    c.pattern8-i1.ensures c.pattern8-i2.ensures c.pattern8-i3.ensures
-    c.pattern8-p1.ensures c.pattern8-p2.ensures
-    c.pattern8-p3.ensures c.pattern8-p4.ensures
+    form-bytes (form-fits c.args.form _ c.well_formed.0) c.pattern16.ensures c.two_bytes.ensures
+    c.pattern8.ensures c.pattern8-2.ensures c.pattern8-3.ensures
+    c.pattern8-4.ensures c.pattern8-5.ensures
+    c.pattern8-6.ensures c.pattern8-7.ensures

@@ -14,6 +14,6 @@ returns c =
     let fits = loop-fits c.args.fields _ c.well_formed.1.1.0 in
     same_bytes (sym (append-nil _))
     (and_then (and_then (and_then (and_then c.put_unsigned16-at.ensures.appended c.put_unsigned16-at-2.ensures.appended)
-    (same_bytes (ap (little_endian 2) (stride-encoded c.args.fields fits c.pattern16-stride.ensures)) c.put_unsigned16-at-3.ensures.appended))
-    (same_bytes c.form_bytes-first.ensures c.put-at.ensures))
-    (same_bytes c.form_bytes-second.ensures c.put.ensures))
+    (same_bytes (ap (little_endian 2) (stride-encoded c.args.fields fits c.pattern16.ensures)) c.put_unsigned16-at-3.ensures.appended))
+    (same_bytes c.form_bytes.ensures c.put-at.ensures))
+    (same_bytes c.form_bytes-2.ensures c.put.ensures))
