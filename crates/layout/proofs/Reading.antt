@@ -15,13 +15,13 @@ use Rattle.layout.specs.declared.facts.Fact.{Fact}
 use Rattle.layout.specs.declared.rows.Row.{Row}
 use Rattle.layout.specs.Loops.{difference_from, difference_width, difference_words, fact_from, fact_in, fact_numbers, fact_width, largest, limit_at, limit_from, limit_number, with_largest, loop_limit, ranked_at, ranked_mark, some_ranked, word_in}
 use Rattle.layout.specs.Numbers.{joined, stored_in}
-use Rattle.layout.specs.Rows.{around_room, end_numbers, depth_numbers, place_numbers, number_in, number_room, offset_room, row_from, row_numbers, row_width, straight_role, role_number}
+use Rattle.layout.specs.Rows.{around_room, role_room, end_numbers, depth_numbers, place_numbers, number_in, number_room, offset_room, row_from, row_numbers, row_width}
 use Rattle.layout.proofs.Storing.{read_back, store-next, stored_at, stored_more}
 
 -- ---- rows
 
 abbrev pub blank_row : Row
-blank_row = record { role = straight_role; first = 0; second = 0; end = 0; enclosing = 0; frame = 0; depth = 0; loops = 0; offset = 0; skip = 0 }
+blank_row = record { role = 0; first = 0; second = 0; end = 0; enclosing = 0; frame = 0; depth = 0; loops = 0; offset = 0; skip = 0 }
 
 row-width : (r : Row) → length (row_numbers r) ≡ row_width
 unfolding row_numbers
@@ -53,9 +53,9 @@ module _ (r : Row) where
   unfolding place_numbers
   offset-shared h = omega arith
 
-  pub role-shared : place_numbers r / offset_room ≡ role_number r.role
+  pub role-shared : r.role < role_room → place_numbers r / offset_room ≡ r.role
   unfolding place_numbers
-  role-shared = omega arith
+  role-shared h = omega arith
 
 module _ (before : List ℕ) (rows : List Row) (n : ℕ) where
   abbrev rows_stored : List ℕ

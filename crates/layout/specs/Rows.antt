@@ -79,7 +79,7 @@ row_width = 6
 abbrev pub rows_length : ℕ
 rows_length = record_limit * row_width
 
--- the room of a record's number and of a number of loops, of one more than a record's number, and of an offset: what a remainder cuts off
+-- the room of a record's number and of a number of loops, of one more than a record's number, of an offset and of a role: what a remainder cuts off
 -- stands in no sheet
 abbrev pub number_room : ℕ
 number_room = record_limit
@@ -89,6 +89,9 @@ around_room = 512
 
 abbrev pub offset_room : ℕ
 offset_room = 4096
+
+abbrev pub role_room : ℕ
+role_room = 16
 
 -- the end and the record that it stands in
 unfoldable pub end_numbers : Row → ℕ
@@ -100,7 +103,7 @@ depth_numbers r = r.loops % number_room + number_room * (r.frame % open_limit + 
 
 -- the offset and the role
 unfoldable pub place_numbers : Row → ℕ
-place_numbers r = r.offset % offset_room + offset_room * role_number r.role
+place_numbers r = r.offset % offset_room + offset_room * (r.role % role_room)
 
 unfoldable pub row_numbers : Row → List ℕ
 row_numbers r = r.first ∷ r.second ∷ r.skip ∷ end_numbers r ∷ depth_numbers r ∷ place_numbers r ∷ []

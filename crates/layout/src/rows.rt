@@ -22,7 +22,7 @@ pub enum Role {
 }
 
 impl Role {
-    ghost use Rattle.layout.specs.Rows.{role_named};
+    ghost use Rattle.layout.specs.Rows.{role_named, role_number};
 
     // The role that a number stands for.
     #[tactic(auto, unfolding(crate::specs::Rows::role_named))]
@@ -38,6 +38,14 @@ impl Role {
             _ => Role::Unknown,
         }
     }
+
+    // The number of the role; that of an unknown one stands for no role.
+    #[tactic(auto, unfolding(crate::specs::Rows::role_number))]
+    pub fn number(self) -> u16
+        ensures { result ≡ role_number self }
+    {
+        self as u16
+    }
 }
 
 // Of one record: its role; its costs, least and most of straight work or start and step of a loop; the number of its end; the number of
@@ -45,7 +53,8 @@ impl Role {
 // before it; its offset in the sheet; what a loop costs where it makes no trip.
 #[derive(Clone, Copy)]
 pub struct Row {
-    pub role: Role,
+    // Stays a number, and no `Role`, since `put_row` takes any.
+    pub role: u16,
     pub first: u16,
     pub second: u16,
     pub end: u16,
@@ -83,6 +92,8 @@ const FRAMES: u16 = MAX_OPEN as u16;
 
 const OFFSETS: u16 = 4096;
 
+const ROLES: u16 = 16;
+
 const DEEPEST: u16 = MAX_DEPTH as u16;
 
 pub const ROW_NUMBERS: usize = MAX_RECORDS * ROW_WIDTH;
@@ -97,7 +108,7 @@ fn row_from(number: usize) -> usize
 }
 
 // Stores a record's row. What the remainders cut off stands in no sheet.
-#[tactic(auto, unfolding(crate::specs::Rows::row_numbers, crate::specs::Rows::end_numbers, crate::specs::Rows::depth_numbers, crate::specs::Rows::place_numbers, crate::specs::Rows::role_number))]
+#[tactic(auto, unfolding(crate::specs::Rows::row_numbers, crate::specs::Rows::end_numbers, crate::specs::Rows::depth_numbers, crate::specs::Rows::place_numbers))]
 pub fn put_row(rows: &mut Rows, number: usize, row: Row)
     ensures { rows.new ≡ paste rows.old (row_from number) (row_numbers row) row_width }
 {
@@ -108,7 +119,7 @@ pub fn put_row(rows: &mut Rows, number: usize, row: Row)
         row.skip,
         row.end % NUMBERS + NUMBERS * (row.enclosing % AROUND),
         row.loops % NUMBERS + NUMBERS * (row.frame % FRAMES + FRAMES * depth),
-        row.offset % OFFSETS + OFFSETS * row.role as u16,
+        row.offset % OFFSETS + OFFSETS * (row.role % ROLES),
     ];
     let from = row_from(number);
     rows[from..from + ROW_WIDTH].copy_from_slice(&values);

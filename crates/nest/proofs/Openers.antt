@@ -8,7 +8,7 @@ use native.Mathlib.Numerals.{add-one}
 use Rattle.meaning.specs.Record.{Open, Record, choice_record, end_record, kind, loop_depth, loop_record, next_arm_record, work_record, open_loop, open_choice}
 use Rattle.layout.specs.declared.rows.Row.{Row}
 use Rattle.layout.specs.declared.rows.Role.{Role}
-use Rattle.layout.specs.Rows.{choice_role, loop_role, role_of, role_of_kind}
+use Rattle.layout.specs.Rows.{choice_role, loop_role, role_number, role_of, role_of_kind}
 use Rattle.nest.specs.Rows.{Position, innermost, onward, row_at, rows_from, rows_of, sheet_start}
 use Rattle.nest.specs.Walk.{numbers_after, opens_after}
 use Rattle.nest.proofs.RowsOf.{get_d-from}
@@ -21,7 +21,7 @@ opener_role open_choice = choice_role
 
 -- the row of a record that opened o where os with the numbers ns were open
 pub record OpenerRow (r : Row) (o : Open) (ns : List ℕ) (os : List Open) : Type 0 where
-  pub role_is : r.role ≡ opener_role o
+  pub role_is : r.role ≡ role_number (opener_role o)
   pub enclosing_is : r.enclosing ≡ innermost ns
   pub frame_is : r.frame ≡ length os
   pub depth_is : r.depth ≡ loop_depth os
@@ -46,7 +46,7 @@ module _ (rows : List Row) (d : Row) where
   opener-row p o r rs e h =
       let same : row_of p.number ≡ row_at p r rs = get_d-from p.number rows d ∙ ap (λ xs. get_or xs 0 d) e in
       record {
-        role_is = ap (λ (x : Row). x.role) same ∙ h;
+        role_is = ap (λ (x : Row). x.role) same ∙ ap role_number h;
         enclosing_is = ap (λ (x : Row). x.enclosing) same;
         frame_is = ap (λ (x : Row). x.frame) same;
         depth_is = ap (λ (x : Row). x.depth) same;

@@ -18,7 +18,7 @@ use Rattle.records.specs.View.{length_of_kind}
 use Rattle.sheet.proofs.Openings.{depth-at-most}
 use Rattle.layout.specs.declared.rows.Row.{Row}
 use Rattle.layout.specs.declared.rows.Role.{Role}
-use Rattle.layout.specs.Rows.{end_numbers, number_room, first_cost, role_of, row_numbers, second_cost, skip_cost, row_from, row_width}
+use Rattle.layout.specs.Rows.{end_numbers, number_room, first_cost, role_number, role_of, row_numbers, second_cost, skip_cost, row_from, row_width}
 use Rattle.layout.specs.Numbers.{joined, stored_in}
 use Rattle.layout.proofs.Reading.{blank_row, row_number, row_next, enclosing-shared}
 use Rattle.layout.proofs.Storing.{stored-none}
@@ -99,19 +99,20 @@ skip-cost next_arm_record body e = refl
 
 -- the row of a record, from what is read at its offset
 pub row_is : {sheet : List ℕ} {count n at : ℕ} (g : RecordAt sheet count n at) {byte : ℕ} → byte ≡ get_or sheet at 0 → {body : List ℕ} → body ≡ body_at sheet at →
-    {role : Role} {first second skip end loops enclosing frame depth offset : ℕ} {here : Nesting} → role ≡ role_of_byte byte →
+    {role : Role} {numbered first second skip end loops enclosing frame depth offset : ℕ} {here : Nesting} → role ≡ role_of_byte byte → numbered ≡ role_number role →
     first ≡ cost_in byte body 0 → second ≡ cost_in byte body 2 → skip ≡ skip_cost_in byte body → end ≡ end_of_role role n (drop (n + 1) (records_of sheet)) % 2 ^ 16 →
     frame ≡ here.size % 2 ^ 16 → depth ≡ here.depth % 2 ^ 16 → offset ≡ at % 2 ^ 16 →
     (p : Position) → AtPosition p n at loops enclosing here →
-    record { role = role; first = first; second = second; end = end; enclosing = enclosing; frame = frame; depth = depth; loops = loops; offset = offset; skip = skip }
+    record { role = numbered; first = first; second = second; end = end; enclosing = enclosing; frame = frame; depth = depth; loops = loops; offset = offset; skip = skip }
     ≡ row_at p (get_or (records_of sheet) n end_record) (drop (n + 1) (records_of sheet))
 unfolding row_at nesting_of
-row_is {sheet} {count} {n} {at} g {byte} b {body} bs {role} {first} {second} {skip} {end} {loops} {enclosing} {frame} {depth} {offset} {here} r f s k e fr de o p q =
+row_is {sheet} {count} {n} {at} g {byte} b {body} bs {role} {numbered} {first} {second} {skip} {end} {loops} {enclosing} {frame} {depth} {offset} {here} r rn f s k e fr de o p q =
     let this : Record = get_or (records_of sheet) n end_record in
     let rest : List Record = drop (n + 1) (records_of sheet) in
     let number : byte ≡ kind_number (kind this) = b ∙ kind-read g in
     let decoded = (stands-there g).decoded in
     let is-role : role ≡ role_of this = role-read g b r in
+    let role-numbered : numbered ≡ role_number (role_of this) = rn ∙ ap role_number is-role in
     let one : first ≡ first_cost this = f ∙ ap₂ (λ (k : ℕ) (l : List ℕ). cost_in k l 0) number bs ∙ first-cost this (body_at sheet at) decoded in
     let two : second ≡ second_cost this = s ∙ ap₂ (λ (k : ℕ) (l : List ℕ). cost_in k l 2) number bs ∙ second-cost this (body_at sheet at) decoded in
     let passed : skip ≡ skip_cost this = k ∙ ap₂ skip_cost_in number bs ∙ skip-cost this (body_at sheet at) decoded in
@@ -126,7 +127,7 @@ row_is {sheet} {count} {n} {at} g {byte} b {body} bs {role} {first} {second} {sk
     de ∙ ap (λ (x : Nesting). x.depth % 2 ^ 16) q.opens_are ∙ mod-eq_of_lt (let h : loop_depth p.opens < 2 ^ 16 = omega (arith, q.few_open, depth-at-most p.opens) in h) in
     let stands : offset ≡ p.offset = o ∙ mod-eq_of_lt (offset-small g) ∙ q.offset_is in
     λ t. record {
-      role = is-role t;
+      role = role-numbered t;
       first = one t;
       second = two t;
       end = last t;

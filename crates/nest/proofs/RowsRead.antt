@@ -10,7 +10,7 @@ use Rattle.meaning.specs.Limits.{depth_limit, open_limit, record_limit}
 use Rattle.meaning.proofs.Accepted.{InPlace}
 use Rattle.meaning.proofs.RecordBytes.{sheet_length-bound}
 use Rattle.layout.specs.declared.rows.Row.{Row}
-use Rattle.layout.specs.Rows.{first_cost, role_number, role_of, second_cost, skip_cost}
+use Rattle.layout.specs.Rows.{role_room, first_cost, role_number, role_of, second_cost, skip_cost}
 use Rattle.layout.specs.Rows.{depth_numbers, end_numbers, number_in, number_room, offset_room, place_numbers, row_numbers, row_width}
 use Rattle.layout.specs.Rows.{depth_at, enclosing_at, end_at, first_at, frame_at, loop_at, loops_before_at, offset_at, role_at, second_at, skip_at}
 use Rattle.layout.specs.Loops.{loop_limit}
@@ -21,7 +21,18 @@ use Rattle.nest.specs.Known.{RowsHeld}
 use Rattle.nest.proofs.Walks.{loops-append, loops-at-most, loops-grow, loops_through, numbers_through, opens_through, position_after}
 use Rattle.nest.proofs.OpenNumbers.{Below, below-through, innermost-below}
 use Rattle.nest.proofs.Places.{end-in-place, loops-few}
+use Rattle.layout.specs.declared.rows.Role.{Role}
+use Rattle.layout.specs.declared.rows.Role.TheVariants as roles
 use Rattle.nest.proofs.RowsOf.{row-at, rows-length}
+
+role-small : (role : Role) → role_number role < role_room
+unfolding role_number
+role-small roles.Straight = omega arith
+role-small roles.Loop = omega arith
+role-small roles.End = omega arith
+role-small roles.Choice = omega arith
+role-small roles.NextArm = omega arith
+role-small roles.Unknown = omega arith
 
 module _ {rows : List ℕ} (xs : List Record) (r : Record) (ys : List Record) (held : RowsHeld rows (xs ++ (r ∷ ys)))
     (few : length (xs ++ (r ∷ ys)) ≤ record_limit) where
@@ -55,7 +66,7 @@ module _ {rows : List ℕ} (xs : List Record) (r : Record) (ys : List Record) (h
 
   pub role-reads : role_at rows (length xs) ≡ role_number (role_of r)
   unfolding row_at
-  role-reads = ap (λ (n : ℕ). n / offset_room) places ∙ role-shared here
+  role-reads = ap (λ (n : ℕ). n / offset_room) places ∙ role-shared here (role-small (role_of r))
 
   pub first_reads : first_at rows (length xs) ≡ first_cost r
   unfolding row_numbers row_at

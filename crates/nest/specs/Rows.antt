@@ -3,7 +3,7 @@ use Rattle.std.specs.Prelude.{List, [], ◌∷◌, ℕ, zero, suc, ◌+◌, leng
 use Rattle.meaning.specs.Record.{Record, work_record, loop_record, end_record, choice_record, next_arm_record, record_length, Open, loop_depth}
 use Rattle.layout.specs.declared.rows.Row.{Row}
 use Rattle.layout.specs.Numbers.{joined}
-use Rattle.layout.specs.Rows.{role_of, first_cost, second_cost, skip_cost, row_numbers}
+use Rattle.layout.specs.Rows.{role_number, role_of, first_cost, second_cost, skip_cost, row_numbers}
 use Rattle.nest.specs.Walk.{opens_after, numbers_after, loops_after, records_inside}
 
 -- the number of the end of the record with the number n, a loop or a choice, before the records rs; 0 of another record
@@ -43,7 +43,7 @@ onward p r = record {
 -- the row of the record r at a position, before the records rs
 unfoldable pub row_at : Position → Record → List Record → Row
 row_at p r rs = record {
-  role = role_of r;
+  role = role_number (role_of r);
   first = first_cost r;
   second = second_cost r;
   end = end_number p.number r rs;

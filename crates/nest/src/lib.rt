@@ -116,7 +116,7 @@ fn row_of(
     let role = role_of(kind);
     let end = end_of(sheet, count, number, at + (1 + body.len()), role);
     Row {
-        role,
+        role: role.number(),
         first,
         second,
         end: narrow(end),

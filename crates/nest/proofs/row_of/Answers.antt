@@ -19,6 +19,6 @@ end_of-end-requires c =
 pub returns : goal.returns
 returns c =
     let end = c.narrow.ensures ∙ ap (λ (n : ℕ). n % 2 ^ 16) c.end_of-end.ensures in
-    row_is c.requires c.byte_at-kind.ensures c.body_at-body.ensures c.role_of-role.ensures
+    row_is c.requires c.byte_at-kind.ensures c.body_at-body.ensures c.role_of-role.ensures c.number.ensures
     c.cost-first.ensures c.cost-second.ensures c.skip_cost-skip.ensures end c.narrow-2.ensures c.narrow-3.ensures
     c.narrow-4.ensures
