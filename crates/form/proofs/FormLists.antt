@@ -2,15 +2,20 @@
 use mathlib.Core.Path.{◌≡◌, refl, sym, ap, ap₂, subst, ◌∙◌}
 use mathlib.Core.List.{List, [], ◌∷◌, map}
 use mathlib.Core.Bool.{Bool, cond}
-use Prim.Native.Nat.{ℕ, zero, suc, ◌*◌, ◌^◌, ◌≤◌}
+use Prim.Native.Nat.{ℕ, zero, suc, ◌+◌, ◌*◌, ◌^◌, ◌<◌, ◌≤◌}
+use native.Mathlib.Numerals.{add-one}
 use native.Mathlib.Omega.{arith}
 use borrow.Author.Tests.{le-ltb}
-use lib.IntN.{ℤ, pos, negsuc, nat_abs, ◌+ℤ◌, ◌*ℤ◌, +ℤ_idr, *ℤ-zero}
-use lib.ListN.{length, get_or, replicate, get_or-eq_default}
+use lib.IntN.{ℤ, pos, negsuc, nat_abs, ◌+ℤ◌, ◌-ℤ◌, ◌*ℤ◌, +ℤ_idr, *ℤ-zero}
+use lib.ListN.{length, get_or, set, take, replicate, get_or-eq_default}
 use lib.Signed.{lt_z}
 use mir.Syntax.{w64}
+use borrow.Author.Count.{below_more}
+use Rattle.std.proofs.lemmas.Int.{ints}
+use Rattle.std.proofs.lemmas.Grind.{common_steps}
+use Rattle.std.proofs.lemmas.List.{get_or-set_same}
 use Rattle.whole.specs.Integer.{dot, subtract_lists}
-use Rattle.whole.proofs.Dot.{dot-nil, dot-first-three}
+use Rattle.whole.proofs.Dot.{dot-nil}
 use Rattle.whole.proofs.Elements.{elements}
 use Rattle.meaning.specs.Limits.{depth_limit, index_factors, parameter_factors}
 use Rattle.meaning.specs.Form as M
@@ -34,14 +39,42 @@ indexes-are xs h = elements index_factors xs (pos 0) h
 pub four_are : (xs : List ℤ) → length xs ≡ parameter_factors → at xs 0 ∷ at xs 1 ∷ at xs 2 ∷ at xs 3 ∷ [] ≡ xs
 four_are xs h = elements parameter_factors xs (pos 0) h
 
-pub dot-four : (xs ys : List ℤ) → length xs ≡ parameter_factors → length ys ≡ parameter_factors
-    → at xs 0 *ℤ at ys 0 +ℤ (at xs 1 *ℤ at ys 1 +ℤ (at xs 2 *ℤ at ys 2 +ℤ at xs 3 *ℤ at ys 3)) ≡ dot xs ys
-dot-four xs ys hx hy =
-    ap (λ (z : ℤ). at xs 0 *ℤ at ys 0 +ℤ (at xs 1 *ℤ at ys 1 +ℤ (at xs 2 *ℤ at ys 2 +ℤ z))) (sym (+ℤ_idr (at xs 3 *ℤ at ys 3)))
-    ∙ ap₂ dot (four_are xs hx) (four_are ys hy)
+-- one difference more
+pub differences-more : (ds xs ys : List ℤ) (k : ℕ) {d : ℤ} → k < length ds → ((j : ℕ) → j < k → at ds j ≡ at xs j -ℤ at ys j) → d ≡ at xs k -ℤ at ys k
+    → (j : ℕ) → j < k + 1 → at (set ds k d) j ≡ at xs j -ℤ at ys j
+differences-more ds xs ys k {d} inside earlier here =
+    below_more (λ (j : ℕ). at (set ds k d) j ≡ at xs j -ℤ at ys j) k (λ j h. grind (arith, common_steps, earlier j h))
+    (get_or-set_same ds k d (pos 0) inside ∙ here)
 
-pub dot-three : (xs : List ℤ) (x y z : ℤ) → length xs ≡ index_factors → at xs 0 *ℤ x +ℤ (at xs 1 *ℤ y +ℤ at xs 2 *ℤ z) ≡ dot xs (x ∷ y ∷ z ∷ [])
-dot-three xs x y z h = sym (dot-first-three xs (x ∷ y ∷ z ∷ []) (omega arith))
+-- all of them
+pub differences-are : (n : ℕ) (ds xs ys : List ℤ) → length ds ≡ n → length xs ≡ n → length ys ≡ n → ((j : ℕ) → j < n → at ds j ≡ at xs j -ℤ at ys j)
+    → ds ≡ subtract_lists xs ys
+differences-are zero [] [] [] hd hx hy each = refl
+differences-are (suc n) (d ∷ ds) (x ∷ xs) (y ∷ ys) hd hx hy each =
+    ap₂ ◌∷◌ (each 0 (omega arith)) (differences-are n ds xs ys (omega arith) (omega arith) (omega arith) (λ j h. each (suc j) (omega arith)))
+differences-are zero (d ∷ ds) xs ys hd hx hy each = absurd (omega arith)
+differences-are zero [] (x ∷ xs) ys hd hx hy each = absurd (omega arith)
+differences-are zero [] [] (y ∷ ys) hd hx hy each = absurd (omega arith)
+differences-are (suc n) [] xs ys hd hx hy each = absurd (omega arith)
+differences-are (suc n) (d ∷ ds) [] ys hd hx hy each = absurd (omega arith)
+differences-are (suc n) (d ∷ ds) (x ∷ xs) [] hd hx hy each = absurd (omega arith)
+
+-- one product more
+pub dot-more : (xs ys : List ℤ) (k : ℕ) → k < length xs → k < length ys → dot (take (k + 1) xs) (take (k + 1) ys) ≡ dot (take k xs) (take k ys) +ℤ at xs k *ℤ at ys k
+dot-more xs ys k h l = rw add-one (go xs ys k h l)
+  where
+    go : (xs ys : List ℤ) (k : ℕ) → k < length xs → k < length ys → dot (take (suc k) xs) (take (suc k) ys) ≡ dot (take k xs) (take k ys) +ℤ at xs k *ℤ at ys k
+    go [] ys k h l = absurd (omega arith)
+    go (x ∷ xs) [] k h l = absurd (omega arith)
+    go (x ∷ xs) (y ∷ ys) zero h l = omega (arith, ints)
+    go (x ∷ xs) (y ∷ ys) (suc k) h l = let e = go xs ys k (omega arith) (omega arith) in omega (arith, ints, e)
+
+-- three numbers of a size
+pub small-three : (a b c : ℤ) {size : ℕ} → nat_abs a ≤ size → nat_abs b ≤ size → nat_abs c ≤ size → (k : ℕ) → nat_abs (at (a ∷ b ∷ c ∷ []) k) ≤ size
+small-three a b c ha hb hc zero = ha
+small-three a b c ha hb hc (suc zero) = hb
+small-three a b c ha hb hc (suc (suc zero)) = hc
+small-three a b c ha hb hc (suc (suc (suc k))) = omega arith
 
 -- no more than three indexes take part in a form, and one that is not there counts as 0
 dot-row : (xs ys : List ℤ) → length xs ≡ index_factors → dot xs (bounded (at ys 0) ∷ bounded (at ys 1) ∷ bounded (at ys 2) ∷ []) ≡ dot xs (map bounded ys)

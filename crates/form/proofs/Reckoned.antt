@@ -1,19 +1,19 @@
 -- Signed numbers as the machine holds them: casts, sums, differences and products that fit are exact; the limit's test.
-use mathlib.Core.Path.{◌≡◌, refl, sym, ap, ap₂, ◌∙◌}
+use mathlib.Core.Path.{◌≡◌, refl, sym, ap, ap₂, subst, ◌∙◌}
 use mathlib.Core.List.{[], ◌∷◌}
 use mathlib.Core.Bool.{Bool, true, false, cond}
-use Prim.Native.Nat.{ℕ, zero, ◌+◌, ◌*◌, ◌-◌, ◌^◌, ◌≤◌, ◌<◌}
+use Rattle.std.proofs.Common.{mul-le-mul}
+use Prim.Native.Nat.{ℕ, zero, suc, ◌+◌, ◌*◌, ◌^◌, ◌≤◌, ◌<◌}
 use native.Mathlib.Omega.{arith}
-use borrow.Author.Tests.{ltb-true, ltb-false, leb-true, le-leb, lt-leb}
+use borrow.Author.Tests.{leb-true, le-leb, lt-leb}
 use lib.Dec.{leb}
 use lib.IntN.{ℤ, pos, negsuc, neg_ℤ, nat_abs, ◌+ℤ◌, ◌-ℤ◌, ◌*ℤ◌}
 use lib.Signed.{mag, lt_z}
-use mir.Syntax.{Width, w8, w16, w64}
+use mir.Syntax.{Width, w16, w64}
 use mir.Val.{hbits, SFits, to_z, of_z}
-use mir.Facts.{to_z-of_z, sfits_widen}
-use Rattle.whole.proofs.Order.{nat_abs-add, nat_abs-mul-le, nat_abs-neg, mag-le-nat_abs, fits-signed-64}
+use mir.Facts.{to_z-of_z}
+use Rattle.whole.proofs.Order.{nat_abs-add, nat_abs-mul-le, nat_abs-neg, fits-signed-64}
 use Rattle.form.specs.Forms.{size_limit, bounded}
-use Rattle.meaning.proofs.Logic.{true-is-not-false}
 
 -- a number as the machine gives it back
 abbrev pub held : Width → ℤ → ℤ
@@ -30,12 +30,24 @@ reckoned {z} {exact} e h l =
     let f : SFits w64 exact = fits-signed-64 exact (omega arith) in
     rw e (record { fits = f; same = to_z-of_z f; small = h })
 
+-- a number that is told to be another
+pub as-told : {r z exact : ℤ} {size : ℕ} → r ≡ z → Reckoned z exact size → Reckoned r exact size
+as-told {r} {z} {exact} {size} e h = subst (λ (y : ℤ). Reckoned y exact size) (sym e) h
+
 -- a known number
 pub known : {z exact : ℤ} {size : ℕ} → z ≡ exact → nat_abs z ≤ size → size < 2 ^ 63 → Reckoned z exact size
 known e h l = reckoned e (rw e at h) l
 
 pub add : {x y u v : ℤ} {m n : ℕ} → Reckoned x u m → Reckoned y v n → m + n < 2 ^ 63 → Reckoned (held w64 x +ℤ held w64 y) (u +ℤ v) (m + n)
 add {x} {y} {u} {v} a b l = let s = nat_abs-add u v in let sx = a.small in let sy = b.small in reckoned (ap₂ ◌+ℤ◌ a.same b.same) (omega arith) l
+
+-- a sum that goes on
+pub add-to : {x y u v : ℤ} {m n : ℕ} → x ≡ u → nat_abs x ≤ m → Reckoned y v n → m + n < 2 ^ 63 → Reckoned (x +ℤ held w64 y) (u +ℤ v) (m + n)
+add-to {x} {y} {u} {v} e h b l = let s = nat_abs-add u v in let sy = b.small in let sx = rw e at h in reckoned (ap₂ ◌+ℤ◌ e b.same) (omega arith) l
+
+-- so many products, and one of them
+pub products-fit : (k n x : ℕ) → k < n → k * x + x ≤ n * x
+products-fit k n x h = let few : suc k ≤ n = omega arith in omega (arith, mul-le-mul few (let same : x ≤ x = omega arith in same))
 
 pub subtract : {x y u v : ℤ} {m n : ℕ} → Reckoned x u m → Reckoned y v n → m + n < 2 ^ 63 → Reckoned (held w64 x -ℤ held w64 y) (u -ℤ v) (m + n)
 subtract {x} {y} {u} {v} a b l =
@@ -62,26 +74,13 @@ size_of {w} (negsuc n) f = let h : n < 2 ^ hbits w = f.sfits in omega arith
 pub widened : {z : ℤ} → SFits w16 z → Reckoned (held w16 z) z (2 ^ 15)
 widened {z} f = reckoned (to_z-of_z f) (size_of z f) (omega arith)
 
--- numbers of 8 bits at 16
-pub widened-8 : {z : ℤ} → SFits w8 z → SFits w16 (held w8 z)
-widened-8 f = rw (to_z-of_z f) (sfits_widen tt f)
-
-pub difference-8 : {x y : ℤ} → SFits w8 x → SFits w8 y
-    → SFits w16 (held w16 (held w8 x) -ℤ held w16 (held w8 y)) × (held w16 (held w16 (held w8 x) -ℤ held w16 (held w8 y)) ≡ x -ℤ y)
-difference-8 {x} {y} fx fy =
-    let gx : SFits w16 x = sfits_widen tt fx in
-    let gy : SFits w16 y = sfits_widen tt fy in
-    let fd : SFits w16 (x -ℤ y) =
-    record { sfits = omega (arith, mag-le-nat_abs (x -ℤ y), nat_abs-add x (neg_ℤ y), nat_abs-neg y, size_of x fx, size_of y fy) } in
-    simp to_z-of_z (fd, refl)
-
 -- ---- the limit
 
 pub bounded-small : (z : ℤ) → nat_abs z ≤ size_limit → bounded z ≡ z
 unfolding bounded
 bounded-small z h = ap (λ (b : Bool). cond b z (pos zero)) (le-leb (nat_abs z) size_limit h)
 
-bounded-large : (z : ℤ) → size_limit < nat_abs z → bounded z ≡ pos zero
+pub bounded-large : (z : ℤ) → size_limit < nat_abs z → bounded z ≡ pos zero
 unfolding bounded
 bounded-large z h = ap (λ (b : Bool). cond b z (pos zero)) (lt-leb (nat_abs z) size_limit h)
 
@@ -92,18 +91,6 @@ bounded-size z = by-test (leb (nat_abs z) size_limit) refl
     by-test : (c : Bool) → leb (nat_abs z) size_limit ≡ c → nat_abs (cond c z (pos zero)) ≤ size_limit
     by-test true e = leb-true (nat_abs z) size_limit e
     by-test false e = omega arith
-
-pub bounded-below : (z : ℤ) → lt_z z (negsuc (size_limit - 1)) ≡ true → bounded z ≡ pos zero
-bounded-below (pos n) h = true-is-not-false (sym h)
-bounded-below (negsuc n) h = bounded-large (negsuc n) (let k = ltb-true (size_limit - 1) n h in omega arith)
-
-pub bounded-above : (z : ℤ) → lt_z (pos size_limit) z ≡ true → bounded z ≡ pos zero
-bounded-above (pos n) h = bounded-large (pos n) (let k = ltb-true size_limit n h in omega arith)
-bounded-above (negsuc n) h = true-is-not-false (sym h)
-
-pub bounded-between : (z : ℤ) → lt_z z (negsuc (size_limit - 1)) ≡ false → lt_z (pos size_limit) z ≡ false → bounded z ≡ z
-bounded-between (pos n) h k = bounded-small (pos n) (let k = ltb-false size_limit n k in omega arith)
-bounded-between (negsuc n) h k = bounded-small (negsuc n) (let k = ltb-false (size_limit - 1) n h in omega arith)
 
 -- what the limit's function gives
 pub limited : {z r : ℤ} → SFits w64 z → r ≡ bounded (held w64 z) → Reckoned r (bounded z) size_limit
@@ -117,16 +104,6 @@ InWidth w z = mag z < 2 ^ hbits w
 
 exactly : (w : Width) (z : ℤ) → InWidth w z → held w z ≡ z
 exactly w z h = to_z-of_z {w = w} (record { sfits = h })
-
-pub difference-read : (x y : ℤ) {r : ℤ} → InWidth w8 x → InWidth w8 y → InWidth w16 r → r ≡ held w8 x -ℤ held w8 y → held w16 r ≡ x -ℤ y
-difference-read x y {r} fx fy fr e = exactly w16 r fr ∙ e ∙ ap₂ ◌-ℤ◌ (exactly w8 x fx) (exactly w8 y fy)
-
-pub share-read : (x y : ℤ) {r : ℤ} → InWidth w16 x → InWidth w16 y → (r ≡ held w16 x *ℤ held w16 y) × (nat_abs r ≤ 2 ^ 30) → Reckoned r (x *ℤ y) (2 ^ 30)
-share-read x y fx fy (e, h) = known (e ∙ ap₂ ◌*ℤ◌ (exactly w16 x fx) (exactly w16 y fy)) h (omega arith)
-
-pub product-read : (x : ℤ) {y r : ℤ} → InWidth w16 x → SFits w64 y → (r ≡ held w16 x *ℤ bounded (held w64 y)) × (nat_abs r ≤ 2 ^ 61)
-    → Reckoned r (x *ℤ bounded y) (2 ^ 61)
-product-read x fx fy (e, h) = known (e ∙ ap₂ (λ (a b : ℤ). a *ℤ bounded b) (exactly w16 x fx) (to_z-of_z fy)) h (omega arith)
 
 pub end_read : (x lo hi : ℤ) {r : ℤ} → InWidth w16 x → InWidth w64 lo → InWidth w64 hi → InWidth w64 r
     → r ≡ cond (lt_z (held w16 x) (pos 0)) (held w64 hi) (held w64 lo) → held w64 r ≡ cond (lt_z x (pos 0)) hi lo

@@ -3,7 +3,7 @@
 
 pub mod packed;
 
-ghost use Rattle.std.specs.Prelude.{◌≡◌, [], ◌∷◌, map, cond, ◌*◌, ◌^◌, ◌≤◌, pos, nat_abs, ◌-ℤ◌, ◌*ℤ◌, get_or};
+ghost use Rattle.std.specs.Prelude.{◌≡◌, [], ◌∷◌, ℕ, map, cond, ◌*◌, ◌^◌, ◌<◌, ◌≤◌, pos, nat_abs, ◌-ℤ◌, ◌*ℤ◌, get_or};
 ghost use Rattle.std.specs.Int.Signed.{lt_z};
 ghost use Rattle.whole.specs.Integer as Z;
 ghost use Rattle.meaning.specs.Limits.{index_factors};
@@ -24,7 +24,7 @@ pub type PerLoop = [i64; MAX_DEPTH];
 pub type Parameters = [i16; PARAMETER_FACTORS];
 
 // A factor has 16 bits, which is room for the difference of two factors of a sheet.
-#[derive(Clone, Copy)]
+#[derive(Clone, Copy, PartialEq, Eq)]
 pub struct Form {
     pub constant: i64,
     pub index: [i16; INDEX_FACTORS],
@@ -32,93 +32,62 @@ pub struct Form {
 }
 
 // The smallest value and the largest.
-#[derive(Clone, Copy)]
+#[derive(Clone, Copy, PartialEq, Eq)]
 pub struct Range {
     pub lo: i64,
     pub hi: i64,
 }
 
 // 2^46. No accepted sheet has a larger index, push or constant; up to it, no product or sum here leaves 64 bits.
-const LIMIT: i64 = 0x4000_0000_0000;
+const LIMIT: u64 = 0x4000_0000_0000;
+
+// 2^15, the largest size of a parameter's value.
+const PARAMETER_LIMIT: u64 = 0x8000;
 
 // A number beyond the limit counts as 0.
 fn limited(x: i64) -> i64
     ensures { result ≡ bounded x }
 {
-    if x < -LIMIT {
-        return 0;
+    if x.unsigned_abs() <= LIMIT { x } else { 0 }
+}
+
+// The differences of the factors of two forms.
+fn differences<const N: usize>(x: [i8; N], y: [i8; N]) -> [i16; N]
+    ensures { result ≡ Z.subtract_lists x.entry y.entry }
+{
+    let mut differences = [0; N];
+    for k in 0..N {
+        differences[k] = i16::from(x[k]) - i16::from(y[k]);
     }
-    if LIMIT < x {
-        return 0;
+    differences
+}
+
+// The sum of the products of a form's factors and as many numbers, each of at most this size.
+fn sum_of_products<const N: usize, const LARGEST: u64>(factors: [i16; N], numbers: [i64; N]) -> i64
+    requires small { (k : ℕ) → nat_abs (get_or numbers k (pos 0)) ≤ LARGEST }
+    requires room { N * (2 ^ 15 * LARGEST) < 2 ^ 63 }
+    ensures value { result ≡ Z.dot factors.entry numbers.entry }
+    ensures size { nat_abs result ≤ N * (2 ^ 15 * LARGEST) }
+{
+    let mut sum = 0;
+    for k in 0..N {
+        sum += i64::from(factors[k]) * numbers[k];
     }
-    x
-}
-
-// The difference of two factors of a sheet.
-fn difference(x: i8, y: i8) -> i16
-    ensures { result ≡ x -ℤ y }
-{
-    (x as i16) - (y as i16)
-}
-
-fn index_differences(x: [i8; INDEX_FACTORS], y: [i8; INDEX_FACTORS]) -> [i16; INDEX_FACTORS]
-    ensures { result ≡ Z.subtract_lists x y }
-{
-    [
-        difference(x[0], y[0]),
-        difference(x[1], y[1]),
-        difference(x[2], y[2]),
-    ]
-}
-
-fn parameter_differences(
-    x: [i8; PARAMETER_FACTORS],
-    y: [i8; PARAMETER_FACTORS],
-) -> [i16; PARAMETER_FACTORS]
-    ensures { result ≡ Z.subtract_lists x y }
-{
-    [
-        difference(x[0], y[0]),
-        difference(x[1], y[1]),
-        difference(x[2], y[2]),
-        difference(x[3], y[3]),
-    ]
-}
-
-// A parameter's share of a form's value.
-fn share(factor: i16, parameter: i16) -> i64
-    ensures { (result ≡ factor *ℤ parameter) × (nat_abs result ≤ 2 ^ 30) }
-{
-    (factor as i64) * (parameter as i64)
-}
-
-// All four parameters' shares.
-fn shares(factors: [i16; PARAMETER_FACTORS], parameters: Parameters) -> i64
-    ensures { (result ≡ Z.dot factors parameters) × (nat_abs result ≤ 2 ^ 32) }
-{
-    let first = share(factors[0], parameters[0]);
-    let second = share(factors[1], parameters[1]);
-    let third = share(factors[2], parameters[2]);
-    let fourth = share(factors[3], parameters[3]);
-    first + (second + (third + fourth))
-}
-
-// A factor's product with a number of its index.
-fn product(factor: i16, x: i64) -> i64
-    ensures { (result ≡ factor *ℤ bounded x) × (nat_abs result ≤ 2 ^ 61) }
-{
-    let within = limited(x);
-    (factor as i64) * within
+    sum
 }
 
 // The sum of the products of a form's three factors and the numbers of three indexes.
 fn dot(index: [i16; INDEX_FACTORS], x: i64, y: i64, z: i64) -> i64
     ensures { (result ≡ Z.dot index (bounded x ∷ bounded y ∷ bounded z ∷ [])) × (nat_abs result ≤ index_factors * 2 ^ 61) }
 {
-    let first = product(index[0], x);
-    let second = product(index[1], y);
-    let third = product(index[2], z);
-    first + (second + third)
+    sum_of_products::<INDEX_FACTORS, LIMIT>(index, [limited(x), limited(y), limited(z)])
+}
+
+// All four parameters' shares of a form's value.
+fn shares(factors: [i16; PARAMETER_FACTORS], parameters: Parameters) -> i64
+    ensures { (result ≡ Z.dot factors parameters) × (nat_abs result ≤ 2 ^ 32) }
+{
+    sum_of_products::<PARAMETER_FACTORS, PARAMETER_LIMIT>(factors, parameters.map(i64::from))
 }
 
 // The end of an index's range at which the product with its factor is smallest.
@@ -143,24 +112,11 @@ impl Form {
     pub fn subtract(upper: PackedForm, lower: PackedForm) -> Form
         ensures { wide_form result ≡ M.subtract (form_of upper) (form_of lower) }
     {
-        let upper_index = upper.index;
-        let lower_index = lower.index;
-        let upper_parameter = upper.parameter;
-        let lower_parameter = lower.parameter;
-        let index = index_differences(upper_index, lower_index);
-        let parameter = parameter_differences(upper_parameter, lower_parameter);
         Form {
-            constant: (upper.constant as i64) - (lower.constant as i64),
-            index: index,
-            parameter: parameter,
+            constant: i64::from(upper.constant) - i64::from(lower.constant),
+            index: differences(upper.index, lower.index),
+            parameter: differences(upper.parameter, lower.parameter),
         }
-    }
-
-    // The same form: less one of zeros.
-    pub fn of(f: PackedForm) -> Form
-        ensures { wide_form result ≡ form_of f }
-    {
-        Form::subtract(f, PackedForm::blank())
     }
 
     // The form with the parameters' shares in its constant, and no factors of parameters left.
@@ -208,5 +164,14 @@ impl Form {
         let index = self.index;
         let row = pushes[m];
         dot(index, row[0], row[1], row[2])
+    }
+}
+
+// The same form at 64 bits: less one of zeros.
+impl From<PackedForm> for Form {
+    fn from(form: PackedForm) -> Form
+        ensures { wide_form result ≡ form_of form }
+    {
+        Form::subtract(form, PackedForm::blank())
     }
 }

@@ -158,8 +158,8 @@ fn forms_of(source: Loop, skips: bool, parameters: Parameters) -> Forms
     let down = Loop::counts_down(stride);
     let packed_lower = source.lower;
     let packed_upper = source.upper;
-    let low = Form::of(packed_lower);
-    let up = Form::of(packed_upper);
+    let low = Form::from(packed_lower);
+    let up = Form::from(packed_upper);
     let apart = difference_of(packed_lower, packed_upper, down);
     let lower = low.fold(parameters);
     let upper = up.fold(parameters);

@@ -28,8 +28,8 @@ returns c =
       stride_is = (widened {z = given.source.stride} (record { sfits = c.struct_told-1.given.1.1.0.1 })).same;
       down_is = down;
       asked_is = to_z-of_z {w = w64} (record { sfits = c.asked_difference-asked.type_inv }) ∙ c.asked_difference-asked.ensures;
-      lower_is = c.fold-lower.ensures ∙ ap (folded given.parameters) c.of-low.ensures;
-      upper_is = c.fold-upper.ensures ∙ ap (folded given.parameters) c.of-up.ensures;
+      lower_is = c.fold-lower.ensures ∙ ap (folded given.parameters) c.from-low.ensures;
+      upper_is = c.fold-upper.ensures ∙ ap (folded given.parameters) c.from-up.ensures;
       difference_is =
           c.fold-difference.ensures
           ∙ ap (folded given.parameters) (c.difference_of-apart.ensures ∙ ap (λ (b : Bool). cond b (subtract lower upper) (subtract upper lower)) down);
