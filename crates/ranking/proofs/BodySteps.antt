@@ -1,12 +1,29 @@
 -- The walk over a body, step by step: each record is later than the last, and what it adds to the arms and to the decision.
-use Rattle.std.proofs.Common.{◌≡◌, ℕ, zero, suc, ◌+◌, ◌-◌, ◌<◌, ◌≤◌, max, Bool, true, false, cond, ◌&&◌, ◌||◌, eqb, ltb, List, [], ◌∷◌, length, sym, refl, ap, ◌∙◌, mod-lt, arith, le-ltb, lt-ltb, eq-eqb, ne_eqb}
+use Rattle.std.proofs.Common.{◌≡◌, ℕ, zero, suc, ◌+◌, ◌-◌, ◌<◌, ◌≤◌, ◌⊎◌, inl, inr, max, Bool, true, false, cond, ◌&&◌, ◌||◌, eqb, ltb, List, [], ◌∷◌, length, sym, refl, ap, ◌∙◌, mod-lt, arith, le-ltb, lt-ltb, eq-eqb, ne_eqb}
 use Rattle.meaning.specs.Limits.{record_limit}
-use Rattle.layout.specs.Rows.{loop_role, choice_role, next_arm_role, role_number, number_in, role_at, end_at}
+use mathlib.Core.Bool.{or-true}
+use Rattle.layout.specs.declared.rows.Role.{Role}
+use Rattle.layout.specs.Rows.{role_named, loop_role, choice_role, next_arm_role, role_number, number_in, role_at, end_at}
+use Rattle.layout.proofs.Roles.{role-true, role-false}
+use Rattle.state.specs.declared.bounds.Bounds.{Bounds}
 use Rattle.ranking.specs.Settled.{settled_choice}
 use Rattle.ranking.specs.Body.{next_in_body, standing, body_at, next_arm_count, arms_at, settled_among, settled_at}
 
 module _ (rows : List ℕ) where
   -- ---- the next record
+
+  -- where a loop or a choice was read
+  pub next-behind : (i : ℕ) {role : Role} → role ≡ role_named (role_at rows i) → (role ≡ loop_role) ⊎ (role ≡ choice_role) → suc (max i (end_at rows i)) ≡ next_in_body rows i
+  unfolding next_in_body
+  next-behind i read (inl e) = rw (sym (role-true loop_role refl (role_at rows i) read e)) refl
+  next-behind i read (inr e) =
+      ap (λ (opens : Bool). cond opens (suc (max i (end_at rows i))) (suc i))
+      (sym (or-true (eqb (role_at rows i) (role_number loop_role))) ∙ ap (λ (b : Bool). eqb (role_at rows i) (role_number loop_role) || b) (role-true choice_role refl (role_at rows i) read e))
+
+  -- where another record was read
+  pub next-after : (i : ℕ) {role : Role} → role ≡ role_named (role_at rows i) → (role ≡ loop_role → ⊥) → (role ≡ choice_role → ⊥) → suc i ≡ next_in_body rows i
+  unfolding next_in_body
+  next-after i read e f = rw (sym (role-false loop_role refl (role_at rows i) read e), sym (role-false choice_role refl (role_at rows i) read f)) refl
 
   pub next-after-loop : (i : ℕ) → role_at rows i ≡ role_number loop_role → next_in_body rows i ≡ suc (max i (end_at rows i))
   unfolding next_in_body
@@ -97,26 +114,26 @@ module _ (rows : List ℕ) where
   unfolding next_arm_count
   arms-done arms end i h = rw (standing-done end i h) (omega arith)
 
-  pub arms-one-more : (arms end i : ℕ) → i < end → role_at rows i ≡ role_number next_arm_role → arms_with (arms + 1) end (next_in_body rows i) ≡ arms_with arms end i
+  pub arms-one-more : (arms end i : ℕ) → i < end → true ≡ eqb (role_at rows i) (role_number next_arm_role) → arms_with (arms + 1) end (next_in_body rows i) ≡ arms_with arms end i
   unfolding next_arm_count
-  arms-one-more arms end i h e = rw (standing-next end i h, eq-eqb (role_at rows i) (role_number next_arm_role) e) (omega arith)
+  arms-one-more arms end i h e = rw (standing-next end i h, sym e) (omega arith)
 
-  pub arms-no-more : (arms end i : ℕ) → i < end → (role_at rows i ≡ role_number next_arm_role → ⊥) → arms_with arms end (next_in_body rows i) ≡ arms_with arms end i
+  pub arms-no-more : (arms end i : ℕ) → i < end → false ≡ eqb (role_at rows i) (role_number next_arm_role) → arms_with arms end (next_in_body rows i) ≡ arms_with arms end i
   unfolding next_arm_count
-  arms-no-more arms end i h e = rw (standing-next end i h, ne_eqb (role_at rows i) (role_number next_arm_role) e) (omega arith)
+  arms-no-more arms end i h e = rw (standing-next end i h, sym e) (omega arith)
 
   -- ---- the decision
 
-  module _ (numbers : List ℕ) (count arms_per_trip : ℕ) where
+  module _ (kept : List Bounds) (count arms_per_trip : ℕ) where
     -- that of the choices from record i on, the first of whose arms is arm `first`
     abbrev pub settled_from : ℕ → ℕ → ℕ → Bool
-    settled_from first end i = settled_among rows numbers count arms_per_trip first (standing rows end (end - i) i)
+    settled_from first end i = settled_among rows kept count arms_per_trip first (standing rows end (end - i) i)
 
-    pub settled-none : (opener : ℕ) → end_at rows opener ≤ opener → true ≡ settled_at rows opener numbers count arms_per_trip
+    pub settled-none : (opener : ℕ) → end_at rows opener ≤ opener → true ≡ settled_at rows opener kept count arms_per_trip
     unfolding settled_at body_at settled_among standing
     settled-none opener h = let e : end_at rows opener - suc opener ≡ 0 = omega arith in rw e
 
-    pub settled-begin : (opener : ℕ) → settled_from 0 (end_at rows opener) (opener + 1) ≡ settled_at rows opener numbers count arms_per_trip
+    pub settled-begin : (opener : ℕ) → settled_from 0 (end_at rows opener) (opener + 1) ≡ settled_at rows opener kept count arms_per_trip
     unfolding settled_at body_at
     settled-begin opener = let e : opener + 1 ≡ suc opener = omega arith in ap (settled_from 0 (end_at rows opener)) e
 
@@ -124,23 +141,23 @@ module _ (rows : List ℕ) where
     unfolding settled_among
     settled-done first end i h = rw (standing-done end i h)
 
-    pub settled-other : (first end i : ℕ) → i < end → (role_at rows i ≡ role_number choice_role → ⊥) →
+    pub settled-other : (first end i : ℕ) → i < end → false ≡ eqb (role_at rows i) (role_number choice_role) →
         settled_from first end (next_in_body rows i) ≡ settled_from first end i
     unfolding settled_among
-    settled-other first end i h e = rw (standing-next end i h, ne_eqb (role_at rows i) (role_number choice_role) e)
+    settled-other first end i h e = rw (standing-next end i h, sym e)
 
-    pub settled-at-choice : (first end i : ℕ) → i < end → role_at rows i ≡ role_number choice_role → settled_from first end i
-        ≡ settled_choice numbers count arms_per_trip first (arms_at rows i) && settled_from (first + arms_at rows i) end (next_in_body rows i)
+    pub settled-at-choice : (first end i : ℕ) → i < end → true ≡ eqb (role_at rows i) (role_number choice_role) → settled_from first end i
+        ≡ settled_choice kept count arms_per_trip first (arms_at rows i) && settled_from (first + arms_at rows i) end (next_in_body rows i)
     unfolding settled_among
-    settled-at-choice first end i h e = rw (standing-next end i h, eq-eqb (role_at rows i) (role_number choice_role) e)
+    settled-at-choice first end i h e = rw (standing-next end i h, sym e)
 
     -- where a choice has `own` arms and it was asked whether it is settled
-    module _ (first end i own : ℕ) (decided : Bool) (h : i < end) (e : role_at rows i ≡ role_number choice_role) (counted : own ≡ arms_at rows i)
-        (asked : decided ≡ settled_choice numbers count arms_per_trip first own) where
+    module _ (first end i own : ℕ) (decided : Bool) (h : i < end) (e : true ≡ eqb (role_at rows i) (role_number choice_role)) (counted : own ≡ arms_at rows i)
+        (asked : decided ≡ settled_choice kept count arms_per_trip first own) where
       settled-asked : settled_from first end i ≡ decided && settled_from (first + own) end (next_in_body rows i)
       settled-asked =
           settled-at-choice first end i h e
-          ∙ ap (λ (n : ℕ). settled_choice numbers count arms_per_trip first n && settled_from (first + n) end (next_in_body rows i)) (sym counted)
+          ∙ ap (λ (n : ℕ). settled_choice kept count arms_per_trip first n && settled_from (first + n) end (next_in_body rows i)) (sym counted)
           ∙ ap (λ (b : Bool). b && settled_from (first + own) end (next_in_body rows i)) (sym asked)
 
       pub settled_on : decided ≡ true → settled_from (first + own) end (next_in_body rows i) ≡ settled_from first end i

@@ -1,5 +1,5 @@
--- Kept numbers of a ranked loop's arms: the code's decision about a choice is the definition's.
-use Rattle.std.proofs.Common.{◌≡◌, ℕ, suc, ◌+◌, ◌-◌, ◌*◌, ◌<◌, ◌≤◌, Bool, ◌&&◌, ◌||◌, List, [], ◌∷◌, map, length, get_or, ℤ, pos, sym, refl, ap, ◌∙◌, subst, ap₂, arith}
+-- Kept arms of a ranked loop: the code's decision about a choice is the definition's.
+use Rattle.std.proofs.Common.{◌≡◌, ℕ, suc, ◌+◌, ◌-◌, ◌<◌, ◌≤◌, Bool, ◌&&◌, ◌||◌, List, [], ◌∷◌, map, length, get_or, ℤ, pos, sym, refl, ap, ◌∙◌, ap₂, arith}
 use mathlib.Core.List.{map-map}
 use Rattle.whole.specs.Ranking.{dominates}
 use Rattle.whole.proofs.Ranking.{dominated-exchanged}
@@ -7,11 +7,12 @@ use Rattle.meaning.specs.Tree.{Block, Arms, empty, work, loop, choice, last_arm,
 use Rattle.meaning.specs.Time.{Bounds, exactly}
 use Rattle.meaning.specs.ClosedSum.{leasts, mosts}
 use Rattle.meaning.specs.Settled.{best_among, some_best, slower, faster, choice_settled, all_settled, arm_sums, arms_of, arm_count, choices_of}
+use Rattle.state.specs.declared.bounds.Bounds.{Bounds as ArmBounds}
 use Rattle.ranking.specs.declared.series.Series.{Series}
 use Rattle.ranking.specs.declared.Leads.{Leads}
-use Rattle.ranking.specs.Series.{value_limit, series_of, series_at}
+use Rattle.ranking.specs.Series.{value_limit, series_of}
 use Rattle.ranking.specs.Lead.{at_least, turned_series, first_lead, lead_over}
-use Rattle.ranking.specs.Settled.{most_series, least_series, both_attained, first_leads, leads_from, settled_choice, settled_choices, direct_arms, KeptFigure, Kept}
+use Rattle.ranking.specs.Settled.{bounds_of, arm_in, sums_at, figure_series, most_series, least_series, both_attained, first_leads, leads_from, settled_choice, settled_choices, direct_arms, Kept}
 use Rattle.ranking.proofs.LeadSteps.{settled-by}
 use Rattle.ranking.proofs.Dominance.{Small, first_of, series-dominate, series-words-below, turned-at-least}
 use Rattle.ranking.proofs.LeadLaws.{better, words_of, better-at-least, words_from, lead-decided}
@@ -96,44 +97,32 @@ values-kept (a ∷ b ∷ c ∷ d ∷ []) number v few h =
     λ i. pos (p i) ∷ pos (q i) ∷ pos (r i) ∷ pos (s i) ∷ []
 values-kept (a ∷ b ∷ c ∷ d ∷ e ∷ rest) number v few h = absurd (omega arith)
 
-module _ (numbers : List ℕ) (arms_per_trip : ℕ) (trips : List (List Bounds)) (few : length trips ≤ 4) (figure : Bounds → ℕ) (place : ℕ)
-    (kept : KeptFigure numbers arms_per_trip trips figure place) (turn : Series → Series) where
+module _ (arms : List ArmBounds) (arms_per_trip : ℕ) (trips : List (List Bounds)) (all : Kept arms arms_per_trip trips) (figure : Bounds → ℕ) (kept_figure : ArmBounds → ℕ)
+    (same : (b : Bounds) → kept_figure (bounds_of b) ≡ figure b)
+    (small : (trip arm : ℕ) → trip < length trips → arm < arms_per_trip → figure (sums_at trips trip arm) < value_limit) (turn : Series → Series) where
   arm-listed : (j : ℕ) → j < arms_per_trip →
-      Listed turn (length trips) (map (λ b. pos (figure b)) (arm_sums trips j)) (words_of (turn (series_at numbers (length trips) (2 * arms_per_trip) (2 * j + place))))
-  unfolding series_at
+      Listed turn (length trips) (map (λ b. pos (figure b)) (arm_sums trips j)) (words_of (turn (figure_series arms (length trips) arms_per_trip kept_figure j)))
   arm-listed j h = record {
     first = value 0;
     second = value 1;
     third = value 2;
     fourth = value 3;
-    few = few;
+    few = all.few_trips;
     small = record { first = below 0; second = below 1; third = below 2; fourth = below 3 };
     shape =
         map-map (λ b. pos (figure b)) (λ sums. get_or sums j (exactly 0)) trips
-        ∙ values-kept trips (λ sums. figure (get_or sums j (exactly 0))) value few (λ trip before. kept.kept trip j before h);
-    words = λ i. words_of (turn (series_of (length trips) (number (place0 i)) (number (place1 i)) (number (place2 i)) (number (place3 i))));
+        ∙ values-kept trips (λ sums. figure (get_or sums j (exactly 0))) value all.few_trips (λ trip before. value-is trip before);
+    words = refl;
   }
     where
-      number : ℕ → ℕ
-      number at = get_or numbers at 0
-
       value : ℕ → ℕ
-      value trip = number (2 * (trip * arms_per_trip + j) + place)
+      value trip = kept_figure (arm_in arms arms_per_trip trip j)
+
+      value-is : (trip : ℕ) → trip < length trips → value trip ≡ figure (sums_at trips trip j)
+      value-is trip before = ap kept_figure (all.kept trip j before h) ∙ same (sums_at trips trip j)
 
       below : (trip : ℕ) → trip < length trips → value trip < value_limit
-      below trip before = rw (kept.kept trip j before h) (kept.small trip j before h)
-
-      place0 : 2 * j + place ≡ 2 * (0 * arms_per_trip + j) + place
-      place0 = omega arith
-
-      place1 : 2 * j + place + 2 * arms_per_trip ≡ 2 * (1 * arms_per_trip + j) + place
-      place1 = omega arith
-
-      place2 : 2 * j + place + 2 * (2 * arms_per_trip) ≡ 2 * (2 * arms_per_trip + j) + place
-      place2 = omega arith
-
-      place3 : 2 * j + place + 3 * (2 * arms_per_trip) ≡ 2 * (3 * arms_per_trip + j) + place
-      place3 = omega arith
+      below trip before = rw (value-is trip before) (small trip j before h)
 
 -- ---- a choice
 
@@ -162,42 +151,39 @@ module _ (f : List ℤ → List ℤ → Bool) (R : List ℤ → List ℤ → Typ
       some_same f better R same ps xs ps xs related related
       ∙ ap (λ n. some_best better (words_from series n j) (words_from series n j)) (some-arm arms) ∙ sym (lead-decided series (arm_count arms - 1) j)
 
-module _ (numbers : List ℕ) (arms_per_trip : ℕ) (trips : List (List Bounds)) (kept : Kept numbers arms_per_trip trips) where
+module _ (listed : List ArmBounds) (arms_per_trip : ℕ) (trips : List (List Bounds)) (kept : Kept listed arms_per_trip trips) where
   abbrev count : ℕ
   count = length trips
 
   abbrev most : ℕ → Series
-  most = most_series numbers (length trips) arms_per_trip
+  most = most_series listed (length trips) arms_per_trip
 
   abbrev least : ℕ → Series
-  least = least_series numbers (length trips) arms_per_trip
+  least = least_series listed (length trips) arms_per_trip
 
   most-listed : (j : ℕ) → j < arms_per_trip → Listed straight count (mosts (arm_sums trips j)) (words_of (most j))
   unfolding most_series
-  most-listed = arm-listed numbers arms_per_trip trips kept.few_trips (λ b. b.most) 1 kept.most_kept straight
+  most-listed = arm-listed listed arms_per_trip trips kept (λ b. b.most) (λ b. b.most) (λ b. refl) kept.most_small straight
 
   least-listed : (j : ℕ) → j < arms_per_trip → Listed turned_series count (leasts (arm_sums trips j)) (words_of (least j))
   unfolding least_series
-  least-listed j h =
-      let e : 2 * j + 0 ≡ 2 * j = omega arith in
-      subst (λ (at : ℕ). Listed turned_series count (leasts (arm_sums trips j)) (words_of (turned_series (series_at numbers count (2 * arms_per_trip) at)))) e
-      (arm-listed numbers arms_per_trip trips kept.few_trips (λ b. b.least) 0 kept.least_kept turned_series j h)
+  least-listed = arm-listed listed arms_per_trip trips kept (λ b. b.least) (λ b. b.least) (λ b. refl) kept.least_small turned_series
 
   pub settled-choice : (arms : Arms) (first : ℕ) → first + arm_count arms ≤ arms_per_trip →
-      settled_choice numbers (length trips) arms_per_trip first (arm_count arms) ≡ choice_settled (arms_of trips first arms)
+      settled_choice listed (length trips) arms_per_trip first (arm_count arms) ≡ choice_settled (arms_of trips first arms)
   unfolding choice_settled first_leads leads_from
   settled-choice arms first h =
       let some = some-arm arms in
       let left : first + arm_count arms - suc first ≡ arm_count arms - 1 = omega arith in
-      let leads : ℕ → Leads = λ n. leads_from numbers count arms_per_trip n (suc first) (first_leads numbers count arms_per_trip first) in
+      let leads : ℕ → Leads = λ n. leads_from listed count arms_per_trip n (suc first) (first_leads listed count arms_per_trip first) in
       let slowest = arms-decide slower (Listed straight count) (most-same count) arms_per_trip trips mosts most most-listed arms first h in
       let fastest = arms-decide faster (Listed turned_series count) (least-same count) arms_per_trip trips leasts least least-listed arms first h in
-      sym (settled-by numbers count arms_per_trip first (arm_count arms) (leads (first + arm_count arms - suc first)) (choice_settled (arms_of trips first arms))
+      sym (settled-by listed count arms_per_trip first (arm_count arms) (leads (first + arm_count arms - suc first)) (choice_settled (arms_of trips first arms))
       kept.few_arms (omega arith) h refl (ap₂ ◌&&◌ slowest fastest ∙ ap (λ n. both_attained (leads n)) (sym left)))
 
   -- every choice of a body
   pub settled-choices : (b : Block) (first : ℕ) → first + direct_arms b ≤ arms_per_trip →
-      settled_choices numbers (length trips) arms_per_trip first b ≡ all_settled (choices_of trips first b)
+      settled_choices listed (length trips) arms_per_trip first b ≡ all_settled (choices_of trips first b)
   unfolding settled_choices direct_arms all_settled choices_of
   settled-choices empty first h = refl
   settled-choices (work least most rest) first h = settled-choices rest first h

@@ -1,4 +1,4 @@
--- The numbers of the first trips of a sheet's loop decide whether its choices are settled, as the definition does.
+-- The arms of the first trips of a sheet's loop decide whether its choices are settled, as the definition does.
 use Rattle.std.proofs.Common.{◌≡◌, ℕ, zero, suc, ◌<◌, ◌≤◌, Bool, true, false, ltb, List, [], ◌∷◌, ◌++◌, length, get_or, ℤ, sym, refl, ap, ◌∙◌, arith, length-append, ltb-false, ltb-true}
 use lib.ListN.{get_or-append}
 use lib.Seq.{get_or_at}
@@ -7,10 +7,11 @@ use Rattle.meaning.specs.Time.{Bounds}
 use Rattle.meaning.specs.ClosedSum.{first_sums}
 use Rattle.meaning.specs.Settled.{all_settled, choices_sums}
 use Rattle.meaning.proofs.RankedArms.{choices_times, kept-choices}
-use Rattle.ranking.specs.Settled.{trip_arms_limit, settled_choices, direct_arms, trip_numbers, sums_at, Kept}
+use Rattle.state.specs.declared.bounds.Bounds.{Bounds as ArmBounds}
+use Rattle.ranking.specs.Settled.{trip_arms_limit, settled_choices, direct_arms, trips_arms, sums_at, Kept}
 use Rattle.ranking.proofs.ArmSizes.{AllBelow, Below, below_at, choices-times-length}
 use Rattle.ranking.proofs.KeptLaws.{settled-choices}
-use Rattle.ranking.proofs.FlatLaws.{kept-numbers}
+use Rattle.ranking.proofs.FlatLaws.{kept-arms}
 
 -- ---- the first trips' lists
 
@@ -36,13 +37,13 @@ first-at default (suc n) f t h = by-test (ltb t n) refl (λ i. first-at default 
 
 module _ (ps : List ℤ) where
   -- the arms of the first trips, wherever their sums are below the limit
-  pub first-trips-settled : (count : ℕ) (indexes_at : ℕ → List ℤ) (body : Block) (rest : List ℕ) → count ≤ 4 → direct_arms body ≤ trip_arms_limit →
+  pub first-trips-settled : (count : ℕ) (indexes_at : ℕ → List ℤ) (body : Block) (rest : List ArmBounds) → count ≤ 4 → direct_arms body ≤ trip_arms_limit →
       ((k : ℕ) → k < count → AllBelow (choices_times ps body (indexes_at k))) →
-      settled_choices (trip_numbers (first_sums count (λ k. choices_times ps body (indexes_at k))) ++ rest) count (direct_arms body) 0 body
+      settled_choices (trips_arms (first_sums count (λ k. choices_times ps body (indexes_at k))) ++ rest) count (direct_arms body) 0 body
       ≡ all_settled (choices_sums ps count indexes_at body)
   first-trips-settled count indexes_at body rest few fits below =
-      ap (λ n. settled_choices (trip_numbers trips ++ rest) n (direct_arms body) 0 body) (sym size)
-      ∙ settled-choices (trip_numbers trips ++ rest) (direct_arms body) trips kept body 0 (omega arith)
+      ap (λ n. settled_choices (trips_arms trips ++ rest) n (direct_arms body) 0 body) (sym size)
+      ∙ settled-choices (trips_arms trips ++ rest) (direct_arms body) trips kept body 0 (omega arith)
       ∙ ap all_settled (kept-choices ps count indexes_at body)
     where
       trips : List (List Bounds)
@@ -57,6 +58,6 @@ module _ (ps : List ℤ) where
       small : (t j : ℕ) → t < length trips → Below (sums_at trips t j)
       small t j h = rw (at t h) (below_at (choices_times ps body (indexes_at t)) j (below t (let e = size in omega arith)))
 
-      kept : Kept (trip_numbers trips ++ rest) (direct_arms body) trips
-      kept = kept-numbers (direct_arms body) trips rest (let e = size in omega arith) fits (λ t h. ap length (at t h) ∙ choices-times-length ps body (indexes_at t))
+      kept : Kept (trips_arms trips ++ rest) (direct_arms body) trips
+      kept = kept-arms (direct_arms body) trips rest (let e = size in omega arith) fits (λ t h. ap length (at t h) ∙ choices-times-length ps body (indexes_at t))
           (λ t j h k. (small t j h).least_below) (λ t j h k. (small t j h).most_below)

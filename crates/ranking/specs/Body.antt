@@ -1,6 +1,7 @@
 -- Whether a loop's choices are settled, by a walk over the rows of what stands directly in its body.
 use Rattle.std.specs.Prelude.{ℕ, zero, suc, ◌+◌, ◌-◌, max, Bool, true, cond, ◌&&◌, ◌||◌, List, [], ◌∷◌, ◌==◌, nat_lt}
 use Rattle.layout.specs.Rows.{loop_role, choice_role, next_arm_role, role_number, role_at, end_at}
+use Rattle.state.specs.declared.bounds.Bounds.{Bounds}
 use Rattle.ranking.specs.Settled.{settled_choice}
 
 module _ (rows : List ℕ) where
@@ -26,14 +27,14 @@ module _ (rows : List ℕ) where
   unfoldable pub arms_at : ℕ → ℕ
   arms_at choice = suc (next_arm_count (body_at choice))
 
-  module _ (numbers : List ℕ) (count arms_per_trip : ℕ) where
+  module _ (arms : List Bounds) (count arms_per_trip : ℕ) where
     -- every choice among the records, the first of whose arms is arm `first`
     unfoldable pub settled_among : ℕ → List ℕ → Bool
     settled_among first [] = true
     settled_among first (i ∷ others) =
-        cond (role_at rows i == role_number choice_role) (settled_choice numbers count arms_per_trip first (arms_at i) && settled_among (first + arms_at i) others)
+        cond (role_at rows i == role_number choice_role) (settled_choice arms count arms_per_trip first (arms_at i) && settled_among (first + arms_at i) others)
         (settled_among first others)
 
 -- every choice that stands directly in the body of the loop that is this record
-unfoldable pub settled_at : List ℕ → ℕ → List ℕ → ℕ → ℕ → Bool
-settled_at rows opener numbers count arms_per_trip = settled_among rows numbers count arms_per_trip 0 (body_at rows opener)
+unfoldable pub settled_at : List ℕ → ℕ → List Bounds → ℕ → ℕ → Bool
+settled_at rows opener arms count arms_per_trip = settled_among rows arms count arms_per_trip 0 (body_at rows opener)

@@ -1,5 +1,5 @@
 -- The Newton series of one arm's sums in the first trips, as words of 64 bits.
-use Rattle.std.specs.Prelude.{ℕ, ◌+◌, ◌*◌, ◌^◌, cond, List, ℤ, pos, ◌+ℤ◌, ◌-ℤ◌, nat_lt, slice_index}
+use Rattle.std.specs.Prelude.{ℕ, ◌^◌, cond, ℤ, pos, ◌+ℤ◌, ◌-ℤ◌, nat_lt}
 use Rattle.whole.specs.Integer.{floor_remainder}
 use Rattle.ranking.specs.declared.series.Series.{Series}
 
@@ -35,8 +35,3 @@ series_of count a b c d = record {
   order2 = rank_known 2 count (second_difference (pos a) (pos b) (pos c));
   order3 = rank_known 3 count (third_difference (pos a) (pos b) (pos c) (pos d));
 }
-
--- of the numbers that stand `step` apart, the first at `at`
-unfoldable pub series_at : List ℕ → ℕ → ℕ → ℕ → Series
-series_at numbers count step at =
-    series_of count (slice_index numbers at) (slice_index numbers (at + step)) (slice_index numbers (at + 2 * step)) (slice_index numbers (at + 3 * step))

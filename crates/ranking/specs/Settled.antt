@@ -1,12 +1,14 @@
--- Whether a choice is settled, from the numbers that are kept: of each of `count` trips its `arms_per_trip` arms, of each arm its least and its most.
-use Rattle.std.specs.Prelude.{◌≡◌, ℕ, zero, suc, ◌+◌, ◌*◌, ◌<◌, ◌≤◌, Bool, true, false, cond, ◌&&◌, List, [], ◌∷◌, ◌++◌, length, nat_le, slice_index, slice_index_or}
+-- Whether a choice is settled, from the arms that are kept: of each of `count` trips its `arms_per_trip` arms.
+use Rattle.std.specs.Prelude.{◌≡◌, ℕ, zero, suc, ◌+◌, ◌*◌, ◌<◌, ◌≤◌, Bool, true, false, cond, ◌&&◌, List, [], ◌∷◌, ◌++◌, length, map, nat_le, slice_index_or}
 use Rattle.meaning.specs.Limits.{record_limit}
 use Rattle.meaning.specs.Tree.{Block, empty, work, loop, choice}
 use Rattle.meaning.specs.Time.{Bounds, exactly}
 use Rattle.meaning.specs.Settled.{arm_count}
+use Rattle.state.specs.declared.bounds.Bounds.{Bounds as ArmBounds}
+use Rattle.state.specs.Bounds.{bounds, no_bounds}
 use Rattle.ranking.specs.declared.series.Series.{Series}
 use Rattle.ranking.specs.declared.Leads.{Leads}
-use Rattle.ranking.specs.Series.{value_limit, series_at}
+use Rattle.ranking.specs.Series.{value_limit, series_of}
 use Rattle.ranking.specs.Lead.{turned_series, first_lead, next_lead, lead_over}
 
 -- each arm has a record of its own: its choice's, or the next arm's
@@ -17,14 +19,24 @@ trip_arms_limit = record_limit
 abbrev pub both_attained : Leads → Bool
 both_attained leads = leads.most.attained && leads.least.attained
 
-module _ (numbers : List ℕ) (count arms_per_trip : ℕ) where
-  -- the series of the most of arm j
+-- one of the arms
+unfoldable pub arm_in : List ArmBounds → ℕ → ℕ → ℕ → ArmBounds
+arm_in arms arms_per_trip trip j = slice_index_or arms (trip * arms_per_trip + j) no_bounds
+
+module _ (arms : List ArmBounds) (count arms_per_trip : ℕ) where
+  -- the series of one figure of arm j
+  abbrev pub figure_series : (ArmBounds → ℕ) → ℕ → Series
+  figure_series figure j =
+      series_of count (figure (arm_in arms arms_per_trip 0 j)) (figure (arm_in arms arms_per_trip 1 j)) (figure (arm_in arms arms_per_trip 2 j))
+      (figure (arm_in arms arms_per_trip 3 j))
+
+  -- that of its most
   unfoldable pub most_series : ℕ → Series
-  most_series j = series_at numbers count (2 * arms_per_trip) (2 * j + 1)
+  most_series j = figure_series (λ b. b.most) j
 
   -- that of its least, turned
   unfoldable pub least_series : ℕ → Series
-  least_series j = turned_series (series_at numbers count (2 * arms_per_trip) (2 * j))
+  least_series j = turned_series (figure_series (λ b. b.least) j)
 
   -- the comparison after arm j, the first one
   unfoldable pub first_leads : ℕ → Leads
@@ -58,30 +70,28 @@ direct_arms (work least most rest) = direct_arms rest
 direct_arms (loop l body rest) = direct_arms rest
 direct_arms (choice arms rest) = arm_count arms + direct_arms rest
 
--- ---- the numbers that are kept of arms
+-- ---- the arms that are kept
 
--- of one trip: arm after arm, the least and the most
-unfoldable pub bounds_numbers : List Bounds → List ℕ
-bounds_numbers [] = []
-bounds_numbers (b ∷ bs) = b.least ∷ b.most ∷ bounds_numbers bs
+abbrev pub bounds_of : Bounds → ArmBounds
+bounds_of b = bounds b.least b.most
+
+-- of one trip, arm after arm
+abbrev pub arms_bounds : List Bounds → List ArmBounds
+arms_bounds = map bounds_of
 
 -- trip after trip
-unfoldable pub trip_numbers : List (List Bounds) → List ℕ
-trip_numbers [] = []
-trip_numbers (sums ∷ trips) = bounds_numbers sums ++ trip_numbers trips
+unfoldable pub trips_arms : List (List Bounds) → List ArmBounds
+trips_arms [] = []
+trips_arms (sums ∷ trips) = arms_bounds sums ++ trips_arms trips
 
 -- the sums of an arm in a trip
 abbrev pub sums_at : List (List Bounds) → ℕ → ℕ → Bounds
 sums_at trips trip arm = slice_index_or (slice_index_or trips trip []) arm (exactly 0)
 
--- the numbers have one figure of the sums of each arm in each trip, at this place of the arm's two, and the figure is below the limit
-pub record KeptFigure (numbers : List ℕ) (arms_per_trip : ℕ) (trips : List (List Bounds)) (figure : Bounds → ℕ) (place : ℕ) : Type 0 where
-  pub kept : (trip arm : ℕ) → trip < length trips → arm < arms_per_trip → slice_index numbers (2 * (trip * arms_per_trip + arm) + place) ≡ figure (sums_at trips trip arm)
-  pub small : (trip arm : ℕ) → trip < length trips → arm < arms_per_trip → figure (sums_at trips trip arm) < value_limit
-
--- the numbers have the least and the most of each arm in each of at most four trips
-pub record Kept (numbers : List ℕ) (arms_per_trip : ℕ) (trips : List (List Bounds)) : Type 0 where
+-- the arms are those of each of at most four trips, and their sums are below the limit
+pub record Kept (arms : List ArmBounds) (arms_per_trip : ℕ) (trips : List (List Bounds)) : Type 0 where
   pub few_trips : length trips ≤ 4
   pub few_arms : arms_per_trip ≤ trip_arms_limit
-  pub least_kept : KeptFigure numbers arms_per_trip trips (λ b. b.least) 0
-  pub most_kept : KeptFigure numbers arms_per_trip trips (λ b. b.most) 1
+  pub kept : (trip arm : ℕ) → trip < length trips → arm < arms_per_trip → arm_in arms arms_per_trip trip arm ≡ bounds_of (sums_at trips trip arm)
+  pub least_small : (trip arm : ℕ) → trip < length trips → arm < arms_per_trip → (sums_at trips trip arm).least < value_limit
+  pub most_small : (trip arm : ℕ) → trip < length trips → arm < arms_per_trip → (sums_at trips trip arm).most < value_limit

@@ -1,5 +1,5 @@
 // The comparison arm after arm: the largest coefficient of each order so far, and whether one arm has them all.
-ghost use Rattle.std.specs.Prelude.{◌≡◌, max};
+ghost use Rattle.std.specs.Prelude.{◌≡◌};
 ghost use Rattle.ranking.specs.Lead.{at_least, joined_series, turned_series, first_lead, attained_with, next_lead};
 
 use crate::series::Series;
@@ -10,41 +10,29 @@ pub struct Lead {
     pub attained: bool,
 }
 
-fn larger(a: u64, b: u64) -> u64
-    ensures { result ≡ max a b }
-{
-    if a < b { b } else { a }
-}
-
 // Whether no coefficient of s is below that of t.
+#[tactic(auto, unfolding(crate::specs::Lead::at_least))]
 fn at_least(s: Series, t: Series) -> bool
     ensures { result ≡ at_least s t }
 {
-    if s.order0 < t.order0 {
-        return false;
-    }
-    if s.order1 < t.order1 {
-        return false;
-    }
-    if s.order2 < t.order2 {
-        return false;
-    }
-    t.order3 <= s.order3
+    t.order0 <= s.order0 && t.order1 <= s.order1 && t.order2 <= s.order2 && t.order3 <= s.order3
 }
 
 // The larger coefficient of each order.
+#[tactic(auto, unfolding(crate::specs::Lead::joined_series))]
 fn joined(s: Series, t: Series) -> Series
     ensures { result ≡ joined_series s t }
 {
     Series {
-        order0: larger(s.order0, t.order0),
-        order1: larger(s.order1, t.order1),
-        order2: larger(s.order2, t.order2),
-        order3: larger(s.order3, t.order3),
+        order0: s.order0.max(t.order0),
+        order1: s.order1.max(t.order1),
+        order2: s.order2.max(t.order2),
+        order3: s.order3.max(t.order3),
     }
 }
 
 // Words that compare the other way round.
+#[tactic(auto, unfolding(crate::specs::Lead::turned_series))]
 pub fn turned(s: Series) -> Series
     ensures { result ≡ turned_series s }
 {
@@ -57,6 +45,7 @@ pub fn turned(s: Series) -> Series
 }
 
 // After the first arm.
+#[tactic(auto, unfolding(crate::specs::Lead::first_lead))]
 pub fn first_lead(s: Series) -> Lead
     ensures { result ≡ first_lead s }
 {
@@ -69,17 +58,11 @@ pub fn first_lead(s: Series) -> Lead
 fn attained_with(largest: Series, attained: bool, s: Series) -> bool
     ensures { result ≡ attained_with largest attained s }
 {
-    if at_least(s, largest) {
-        return true;
-    }
-    if attained {
-        at_least(largest, s)
-    } else {
-        false
-    }
+    at_least(s, largest) || attained && at_least(largest, s)
 }
 
 // With one arm more.
+#[tactic(auto, unfolding(crate::specs::Lead::next_lead))]
 pub fn next_lead(lead: Lead, s: Series) -> Lead
     ensures { result ≡ next_lead lead s }
 {

@@ -1,21 +1,28 @@
-// Whether the choices of a ranked loop are settled, from the sums of their arms in its first trips: `numbers` has, trip after trip and arm after arm, the
-// least and the most, `arms` arms in each of `count` trips.
+// Whether the choices of a ranked loop are settled, from the sums of their arms in its first trips.
 #![tactic(auto)]
 
 pub mod body;
 pub mod lead;
 pub mod series;
 
-ghost use Rattle.std.specs.Prelude.{◌≡◌, suc, ◌-◌, ◌*◌, ◌<◌, ◌≤◌, slice_index};
-ghost use Rattle.ranking.specs.Series.{series_at};
-ghost use Rattle.ranking.specs.Settled.{trip_arms_limit, most_series, least_series, first_leads, next_leads, leads_from, both_attained, settled_choice};
+ghost use Rattle.std.specs.Prelude.{◌≡◌, suc, ◌-◌, ◌<◌, ◌≤◌};
+ghost use Rattle.ranking.specs.Settled.{trip_arms_limit, arm_in, most_series, least_series, first_leads, next_leads, leads_from, both_attained, settled_choice};
 
 use crate::lead::{Lead, first_lead, next_lead, turned};
 use crate::series::{Series, series_of};
 use records::MAX_RECORDS;
+use state::bounds::Bounds;
 
 // Each arm has a record of its own: its choice's, or the next arm's.
 const MAX_TRIP_ARMS: usize = MAX_RECORDS;
+
+// The arms that are kept of a loop's first trips, trip after trip: how many trips, and how many arms in each.
+#[derive(Clone, Copy)]
+pub struct KeptArms<'a> {
+    pub arms: &'a [Bounds],
+    pub trips: u64,
+    pub per_trip: usize,
+}
 
 // The comparison of the arms' most and of their least.
 #[derive(Clone, Copy)]
@@ -24,100 +31,102 @@ pub struct Leads {
     pub least: Lead,
 }
 
-// A number that was kept; past the last one 0.
-fn number_at(numbers: &[u64], at: usize) -> u64
-    ensures { result ≡ slice_index numbers.now at }
-{
-    if at < numbers.len() { numbers[at] } else { 0 }
-}
-
-// The series of the numbers at `at`, one trip's numbers further, and so on.
-fn series_at(numbers: &[u64], count: u64, step: usize, at: usize) -> Series
-    requires { (step ≤ 2 * trip_arms_limit) × (at ≤ 2 * trip_arms_limit) }
-    ensures { result ≡ series_at numbers.now count step at }
-{
-    let first = number_at(numbers, at);
-    let second = number_at(numbers, at + step);
-    let third = number_at(numbers, at + 2 * step);
-    let fourth = number_at(numbers, at + 3 * step);
-    series_of(count, first, second, third, fourth)
-}
-
-// The series of an arm's most.
-fn most_series(numbers: &[u64], count: u64, arms: usize, arm: usize) -> Series
-    requires { (arms ≤ trip_arms_limit) × (arm < arms) }
-    ensures { result ≡ most_series numbers.now count arms arm }
-{
-    series_at(numbers, count, 2 * arms, 2 * arm + 1)
-}
-
-// The series of its least, turned, so that the smallest coefficient is the largest word.
-fn least_series(numbers: &[u64], count: u64, arms: usize, arm: usize) -> Series
-    requires { (arms ≤ trip_arms_limit) × (arm < arms) }
-    ensures { result ≡ least_series numbers.now count arms arm }
-{
-    turned(series_at(numbers, count, 2 * arms, 2 * arm))
-}
-
-// After the first arm.
-fn first_leads(numbers: &[u64], count: u64, arms: usize, arm: usize) -> Leads
-    requires { (arms ≤ trip_arms_limit) × (arm < arms) }
-    ensures { result ≡ first_leads numbers.now count arms arm }
-{
-    Leads {
-        most: first_lead(most_series(numbers, count, arms, arm)),
-        least: first_lead(least_series(numbers, count, arms, arm)),
-    }
-}
-
-// With one arm more.
-fn next_leads(numbers: &[u64], count: u64, arms: usize, leads: Leads, arm: usize) -> Leads
-    requires { (arms ≤ trip_arms_limit) × (arm < arms) }
-    ensures { result ≡ next_leads numbers.now count arms leads arm }
-{
-    Leads {
-        most: next_lead(leads.most, most_series(numbers, count, arms, arm)),
-        least: next_lead(leads.least, least_series(numbers, count, arms, arm)),
-    }
-}
-
 fn both_attained(leads: Leads) -> bool
     ensures { result ≡ both_attained leads }
 {
-    let most = leads.most;
-    let least = leads.least;
-    if most.attained { least.attained } else { false }
+    leads.most.attained && leads.least.attained
 }
 
-// Goes over the arms from `first` to before `end`.
-fn leads_over(numbers: &[u64], count: u64, arms: usize, first: usize, end: usize) -> Leads
-    requires { (arms ≤ trip_arms_limit) × ((first < end) × (end ≤ arms)) }
-    ensures { result ≡ leads_from numbers.now count arms (end - suc first) (suc first) (first_leads numbers.now count arms first) }
-{
-    let mut leads = first_leads(numbers, count, arms, first);
-    let mut arm = first + 1;
-    while arm < end {
-        leads = next_leads(numbers, count, arms, leads, arm);
-        arm += 1;
+impl KeptArms<'_> {
+    // One of the arms; past the last one a blank one.
+    #[tactic(auto, unfolding(crate::specs::Settled::arm_in))]
+    fn at(self, trip: usize, arm: usize) -> Bounds
+        requires { (self.per_trip ≤ trip_arms_limit) × ((arm < self.per_trip) × (trip < 4)) }
+        ensures { result ≡ arm_in self.entry.arms.now self.entry.per_trip trip arm }
+    {
+        match self.arms.get(trip * self.per_trip + arm) {
+            Some(bounds) => *bounds,
+            None => Bounds::exactly(0),
+        }
     }
-    leads
+
+    // The series of an arm's most.
+    #[tactic(auto, unfolding(crate::specs::Settled::most_series))]
+    fn most_series(self, arm: usize) -> Series
+        requires { (self.per_trip ≤ trip_arms_limit) × (arm < self.per_trip) }
+        ensures { result ≡ most_series self.entry.arms.now self.entry.trips self.entry.per_trip arm }
+    {
+        series_of(
+            self.trips,
+            self.at(0, arm).most,
+            self.at(1, arm).most,
+            self.at(2, arm).most,
+            self.at(3, arm).most,
+        )
+    }
+
+    // The series of its least, turned, so that the smallest coefficient is the largest word.
+    #[tactic(auto, unfolding(crate::specs::Settled::least_series))]
+    fn least_series(self, arm: usize) -> Series
+        requires { (self.per_trip ≤ trip_arms_limit) × (arm < self.per_trip) }
+        ensures { result ≡ least_series self.entry.arms.now self.entry.trips self.entry.per_trip arm }
+    {
+        turned(series_of(
+            self.trips,
+            self.at(0, arm).least,
+            self.at(1, arm).least,
+            self.at(2, arm).least,
+            self.at(3, arm).least,
+        ))
+    }
+
+    // After the first arm.
+    #[tactic(auto, unfolding(crate::specs::Settled::first_leads))]
+    fn first_leads(self, arm: usize) -> Leads
+        requires { (self.per_trip ≤ trip_arms_limit) × (arm < self.per_trip) }
+        ensures { result ≡ first_leads self.entry.arms.now self.entry.trips self.entry.per_trip arm }
+    {
+        Leads {
+            most: first_lead(self.most_series(arm)),
+            least: first_lead(self.least_series(arm)),
+        }
+    }
+
+    // With one arm more.
+    #[tactic(auto, unfolding(crate::specs::Settled::next_leads))]
+    fn next_leads(self, leads: Leads, arm: usize) -> Leads
+        requires { (self.per_trip ≤ trip_arms_limit) × (arm < self.per_trip) }
+        ensures { result ≡ next_leads self.entry.arms.now self.entry.trips self.entry.per_trip leads arm }
+    {
+        Leads {
+            most: next_lead(leads.most, self.most_series(arm)),
+            least: next_lead(leads.least, self.least_series(arm)),
+        }
+    }
+
+    // Goes over the arms from `first` to before `end`.
+    fn leads_over(self, first: usize, end: usize) -> Leads
+        requires { (self.per_trip ≤ trip_arms_limit) × ((first < end) × (end ≤ self.per_trip)) }
+        ensures { result ≡ leads_from self.entry.arms.now self.entry.trips self.entry.per_trip (end - suc first) (suc first) (first_leads self.entry.arms.now self.entry.trips self.entry.per_trip first) }
+    {
+        let mut leads = self.first_leads(first);
+        for arm in first + 1..end {
+            leads = self.next_leads(leads, arm);
+        }
+        leads
+    }
 }
 
 // Whether a choice is settled, of whose `own` arms arm `first` is the first one. Where no choice is meant by that, it is not.
-pub fn settled_choice(numbers: &[u64], count: u64, arms: usize, first: usize, own: usize) -> bool
-    ensures { result ≡ settled_choice numbers.now count arms first own }
+pub fn settled_choice(kept: KeptArms, first: usize, own: usize) -> bool
+    ensures { result ≡ settled_choice kept.entry.arms.now kept.entry.trips kept.entry.per_trip first own }
 {
-    if MAX_TRIP_ARMS < arms {
+    if own == 0
+        || MAX_TRIP_ARMS < kept.per_trip
+        || kept.per_trip < own
+        || kept.per_trip - own < first
+    {
         return false;
     }
-    if arms < own {
-        return false;
-    }
-    if own == 0 {
-        return false;
-    }
-    if arms - own < first {
-        return false;
-    }
-    both_attained(leads_over(numbers, count, arms, first, first + own))
+    both_attained(kept.leads_over(first, first + own))
 }

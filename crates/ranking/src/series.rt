@@ -2,8 +2,6 @@
 ghost use Rattle.std.specs.Prelude.{◌≡◌, ◌+◌, ◌%◌, ◌^◌, if◌then◌else◌, nat_lt};
 ghost use Rattle.ranking.specs.Series.{series_of};
 
-use std::num::{wrapping_add_u64, wrapping_sub_u64};
-
 // 2^63: added to signed words, it makes them compare as unsigned ones do.
 const HALF: u64 = 0x8000_0000_0000_0000;
 
@@ -21,7 +19,7 @@ fn rank_known(order: u64, count: u64, word: u64) -> u64
     ensures { result ≡ (if nat_lt order count then (word + 2 ^ 63) % 2 ^ 64 else 0) }
 {
     if order < count {
-        wrapping_add_u64(word, HALF)
+        word.wrapping_add(HALF)
     } else {
         0
     }
@@ -31,12 +29,12 @@ fn rank_known(order: u64, count: u64, word: u64) -> u64
 pub fn series_of(count: u64, first: u64, second: u64, third: u64, fourth: u64) -> Series
     ensures { result ≡ series_of count first second third fourth }
 {
-    let first_difference = wrapping_sub_u64(second, first);
-    let next_first = wrapping_sub_u64(third, second);
-    let last_first = wrapping_sub_u64(fourth, third);
-    let second_difference = wrapping_sub_u64(next_first, first_difference);
-    let next_second = wrapping_sub_u64(last_first, next_first);
-    let third_difference = wrapping_sub_u64(next_second, second_difference);
+    let first_difference = second.wrapping_sub(first);
+    let next_first = third.wrapping_sub(second);
+    let last_first = fourth.wrapping_sub(third);
+    let second_difference = next_first.wrapping_sub(first_difference);
+    let next_second = last_first.wrapping_sub(next_first);
+    let third_difference = next_second.wrapping_sub(second_difference);
     Series {
         order0: rank_known(0, count, first),
         order1: rank_known(1, count, first_difference),

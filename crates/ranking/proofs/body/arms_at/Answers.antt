@@ -1,9 +1,10 @@
 -- The loop keeps: the arms found so far, with the next arms that are still to come, are all arms.
-use Rattle.std.proofs.Common.{ℕ, ◌+◌, List, sym, ap, ◌∙◌, ap₂, arith}
-use Rattle.layout.specs.Rows.{role_number}
+use Rattle.std.proofs.Common.{ℕ, ◌+◌, List, sym, refl, ap, ◌∙◌, ap₂, arith}
+use Rattle.layout.specs.Rows.{next_arm_role, role_at}
+use Rattle.layout.proofs.Roles.{role-test}
 use Rattle.ranking.proofs.BodySteps.{end_below, next-later, arms_with, arms-begin, arms-done, arms-one-more, arms-no-more}
 use Rattle.ranking.proofs.body.arms_at.Goals as goal
-use Rattle.ranking.proofs.body.arms_at.Goals.{then-role_at-eq-NEXT_ARM, else-role_at-eq-NEXT_ARM}
+use Rattle.ranking.proofs.body.arms_at.Goals.{then-eq, else-eq}
 
 pub loop-i-init : goal.loop-i-init
 loop-i-init c =
@@ -19,23 +20,23 @@ loop-i-smaller c =
     omega (arith, next-later c.args.rows.now c.loop-i.i)
 
 pub loop-i-preserved : goal.loop-i-preserved
-unfolding role_number
 loop-i-preserved c =
     let rows : List ℕ = c.args.rows.now in
     let arms : ℕ = c.loop-i.arms in
     let end : ℕ = c.end_at-end.result in
     let i : ℕ = c.loop-i.i in
     let later = next-later rows i in
-    elim c.if-role_at-eq-NEXT_ARM.branch [
-      | then-role_at-eq-NEXT_ARM w ↦ (
+    let test = role-test next_arm_role refl (role_at rows i) c.role_at.ensures c.eq.ensures in
+    elim c.if-eq.branch [
+      | then-eq w ↦ (
         omega arith,
         ap₂ (λ (n k : ℕ). arms_with rows n end k) w.arms-is c.next_in_body-i.ensures
-            ∙ arms-one-more rows arms end i c.loop-i-test.true (sym c.role_at.ensures ∙ w.if-role_at-eq-NEXT_ARM.true) ∙ c.loop-i.invariant.1,
+            ∙ arms-one-more rows arms end i c.loop-i-test.true (sym w.if-eq.true ∙ test) ∙ c.loop-i.invariant.1,
       )
-      | else-role_at-eq-NEXT_ARM w ↦ (
+      | else-eq w ↦ (
         omega arith,
         ap₂ (λ (n k : ℕ). arms_with rows n end k) w.arms-is c.next_in_body-i.ensures
-            ∙ arms-no-more rows arms end i c.loop-i-test.true (λ e. w.if-role_at-eq-NEXT_ARM.false (c.role_at.ensures ∙ e)) ∙ c.loop-i.invariant.1,
+            ∙ arms-no-more rows arms end i c.loop-i-test.true (sym w.if-eq.false ∙ test) ∙ c.loop-i.invariant.1,
       )
     ]
 

@@ -7,7 +7,7 @@ use Rattle.ranking.proofs.body.settled.Given as goal
 
 abbrev pub invariant-loop-i : goal.invariant-loop-i
 invariant-loop-i l =
-    (l.first ≤ record_limit * l.i) × (settled_from l.rows l.numbers l.count l.arms l.first l.end l.i ≡ settled_at l.rows l.opener l.numbers l.count l.arms)
+    (l.first ≤ record_limit * l.i) × (settled_from l.rows l.kept.arms.now l.kept.trips l.kept.per_trip l.first l.end l.i ≡ settled_at l.rows l.opener l.kept.arms.now l.kept.trips l.kept.per_trip)
 
 abbrev pub decreases-loop-i : goal.decreases-loop-i
 decreases-loop-i l = l.end - l.i
