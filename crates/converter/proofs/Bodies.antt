@@ -1,5 +1,5 @@
 -- What a record's body says of the record's bytes in the new sheet, and of its skip.
-use mathlib.Core.Path.{◌≡◌, refl, sym, ap, ◌∙◌, subst}
+use mathlib.Core.Path.{◌≡◌, refl, sym, ap, ◌∙◌}
 use mathlib.Core.List.{List, ◌∷◌, ◌++◌, append-nil}
 use mathlib.Core.Bool.{Bool, true, false, not}
 use mathlib.Core.Option.{Option, none, some}
@@ -12,18 +12,17 @@ use lib.Seq.{take_at}
 use Rattle.meaning.specs.Limits.{body_limit, constant_half}
 use Rattle.meaning.specs.Number.{little_endian, encode_signed, unsigned16}
 use Rattle.meaning.specs.Form.{form_bytes}
-use Rattle.meaning.specs.Record.{loop_kind, kind_number, body_length, Loop, is_given, skip_or, skip_cycles, skip_bytes, Record, work_record, loop_record, end_record, choice_record, next_arm_record, kind, record_length, decode_record, body_bytes, record_bytes}
+use Rattle.meaning.specs.Record.{Kind, loop_kind, kind_number, body_length, Loop, is_given, skip_or, skip_cycles, skip_bytes, Record, work_record, loop_record, end_record, choice_record, next_arm_record, kind, record_length, decode_record, body_bytes, record_bytes}
 use Rattle.meaning.specs.Converter.{with_skip, without_skip, change_loop, skips_start}
 use Rattle.meaning.proofs.Number.{length-little_endian}
 use Rattle.meaning.proofs.Logic.{true-is-not-false}
-use Rattle.meaning.proofs.RecordBytes.{kind_of-kind_number, kind_number-kind_of, body_length-bound, length-skip_bytes}
-use Rattle.records.specs.View.{is_loop_kind, is_loop, skip_in}
-use Rattle.records.proofs.ByKind.{skip-by-number, loop-named}
-use Rattle.converter.specs.Converting.{BodyOf, changed}
+use Rattle.meaning.proofs.RecordBytes.{body_length-bound, length-skip_bytes}
+use Rattle.records.specs.View.{is_loop_kind, skip_in}
+use Rattle.converter.specs.Converting.{BodyOf, changed, stays}
 
 -- ---- a loop's bytes
 
-module _ {l : Loop} {number : ℕ} {body : List ℕ} (b : BodyOf (loop_record l) number body) where
+module _ {l : Loop} {k : Kind} {body : List ℕ} (b : BodyOf (loop_record l) k body) where
   -- all but the skip
   abbrev plain : List ℕ
   plain = little_endian 2 l.start ++ little_endian 2 l.step ++ little_endian 2 (encode_signed constant_half l.stride) ++ form_bytes l.lower ++ form_bytes l.upper
@@ -59,13 +58,9 @@ module _ {l : Loop} {number : ℕ} {body : List ℕ} (b : BodyOf (loop_record l)
 loop-injective : {l m : Loop} → loop_record l ≡ loop_record m → l ≡ m
 loop-injective e = cc
 
-same_kind : (own given : Bool) → kind_number (loop_kind own) ≡ kind_number (loop_kind given) → own ≡ given
-same_kind own given e = sym (skip-by-number own) ∙ ap (λ (n : ℕ). eqb n 6) e ∙ skip-by-number given
-
-module _ {l : Loop} {body : List ℕ} (own : Bool) (b : BodyOf (loop_record l) (kind_number (loop_kind own)) body) where
+module _ {l : Loop} {body : List ℕ} (own : Bool) (b : BodyOf (loop_record l) (loop_kind own) body) where
   decoded-own : decode_record (loop_kind own) body ≡ loop_record l
-  unfolding kind
-  decoded-own = ap (λ (s : Bool). decode_record (loop_kind s) body) (same_kind own (is_given l.skip) b.named) ∙ b.decoded
+  decoded-own = ap (λ (k : Kind). decode_record k body) b.named ∙ b.decoded
 
   -- its own, or its start where it has none
   pub skip-said : {skip : ℕ} → skip ≡ skip_in own body → skip ≡ skip_cycles l
@@ -78,75 +73,79 @@ module _ {l : Loop} {body : List ℕ} (own : Bool) (b : BodyOf (loop_record l) (
 
 -- ---- whether it differs from the start
 
--- a record of another kind than 6 has none that does
-pub no-skip : {number : ℕ} {body : List ℕ} → (number ≡ 6 → ⊥) → (x : Record) → BodyOf x number body → false ≡ not (skips_start x)
+-- a record of another kind than that with a skip has none that does
+pub no-skip : {k : Kind} {body : List ℕ} → (k ≡ loop_kind true → ⊥) → (x : Record) → BodyOf x k body → false ≡ not (skips_start x)
 unfolding skips_start
 no-skip other (work_record least most) b = refl
-no-skip {number} other (loop_record l) b = sym (ap not (eq-eqb (skip_cycles l) l.start (same l.skip refl)))
+no-skip {k} other (loop_record l) b = sym (ap not (eq-eqb (skip_cycles l) l.start (same l.skip refl)))
   where
     same : (s : Option ℕ) → l.skip ≡ s → skip_cycles l ≡ l.start
     same none e = unfold skip_cycles skip_or in ap (λ (o : Option ℕ). skip_or o l.start) e
-    same (some n) e =
-        absurd (other (b.named ∙ (unfold kind is_given kind_number in ap (λ (o : Option ℕ). kind_number (loop_kind (is_given o))) e)))
+    same (some n) e = absurd (other (b.named ∙ (unfold kind is_given in ap (λ (o : Option ℕ). loop_kind (is_given o)) e)))
 no-skip other end_record b = refl
 no-skip other choice_record b = refl
 no-skip other next_arm_record b = refl
 
--- one of kind 6, as its body says
+-- one with a skip, as its body says
 pub own-skip : {body : List ℕ} {skip start : ℕ} → skip ≡ skip_in true body → start ≡ unsigned16 body 0 →
-    (x : Record) → BodyOf x 6 body → not (eqb skip start) ≡ not (skips_start x)
-unfolding skips_start kind_number kind
-own-skip e f (work_record least most) b = absurd (omega (arith, b.named))
+    (x : Record) → BodyOf x (loop_kind true) body → not (eqb skip start) ≡ not (skips_start x)
+unfolding skips_start kind
+own-skip e f (work_record least most) b = let n = b.named in cc
 own-skip e f (loop_record l) b = λ i. not (eqb (skip-said true b e i) (start-said true b f i))
-own-skip e f end_record b = absurd (omega (arith, b.named))
-own-skip e f choice_record b = absurd (omega (arith, b.named))
-own-skip e f next_arm_record b = absurd (omega (arith, b.named))
+own-skip e f end_record b = let n = b.named in cc
+own-skip e f choice_record b = let n = b.named in cc
+own-skip e f next_arm_record b = let n = b.named in cc
+
+-- and so none is lost
+pub none_lost : (skips : Bool) {k : Kind} {body : List ℕ} → (k ≡ loop_kind true → ⊥) → (x : Record) → BodyOf x k body → false ≡ not (stays skips x)
+unfolding stays
+none_lost true other x b = refl
+none_lost false other x b = no-skip other x b
 
 -- ---- a record's bytes
 
-kind-tells : {x : Record} {number : ℕ} {body : List ℕ} → BodyOf x number body → is_loop number ≡ is_loop_kind (some (kind x))
-kind-tells {x} b = ap is_loop b.named ∙ ap is_loop_kind (kind_of-kind_number (kind x))
+kind-tells : {x : Record} {k : Kind} {body : List ℕ} → BodyOf x k body → is_loop_kind (some k) ≡ is_loop_kind (some (kind x))
+kind-tells b = ap (λ (k : Kind). is_loop_kind (some k)) b.named
 
 -- of one that is no loop
-pub other-bytes : {number : ℕ} {body : List ℕ} → is_loop number ≡ false → (skips : Bool) (x : Record) → BodyOf x number body →
-    number ∷ body ≡ record_bytes (change_loop (changed skips) x)
+pub other-bytes : {k : Kind} {body : List ℕ} → is_loop_kind (some k) ≡ false → (skips : Bool) (x : Record) → BodyOf x k body →
+    kind_number k ∷ body ≡ record_bytes (change_loop (changed skips) x)
 unfolding change_loop record_bytes is_loop_kind kind
-other-bytes other skips (work_record least most) b = λ i. b.named i ∷ sym b.bytes i
+other-bytes other skips (work_record least most) b = λ i. kind_number (b.named i) ∷ sym b.bytes i
 other-bytes other skips (loop_record l) b = true-is-not-false (sym (kind-tells b) ∙ other)
-other-bytes other skips end_record b = λ i. b.named i ∷ sym b.bytes i
-other-bytes other skips choice_record b = λ i. b.named i ∷ sym b.bytes i
-other-bytes other skips next_arm_record b = λ i. b.named i ∷ sym b.bytes i
+other-bytes other skips end_record b = λ i. kind_number (b.named i) ∷ sym b.bytes i
+other-bytes other skips choice_record b = λ i. kind_number (b.named i) ∷ sym b.bytes i
+other-bytes other skips next_arm_record b = λ i. kind_number (b.named i) ∷ sym b.bytes i
 
--- what holds of the changed record of a loop's number and body, where it holds of the loop
-pub of-loop : {number : ℕ} {body : List ℕ} → is_loop number ≡ true → (skips : Bool) (P : List ℕ → Type 0) →
-    ((l : Loop) → BodyOf (loop_record l) (kind_number (loop_kind (eqb number 6))) body → P (record_bytes (loop_record (changed skips l)))) →
-    (x : Record) → BodyOf x number body → P (record_bytes (change_loop (changed skips) x))
-unfolding change_loop is_loop_kind kind
-of-loop is skips P h (work_record least most) b = true-is-not-false (sym is ∙ kind-tells b)
-of-loop {number} {body} is skips P h (loop_record l) b =
-    h l (subst (λ (n : ℕ). BodyOf (loop_record l) n body) (sym (kind_number-kind_of number (loop_kind (eqb number 6)) (loop-named number is))) b)
-of-loop is skips P h end_record b = true-is-not-false (sym is ∙ kind-tells b)
-of-loop is skips P h choice_record b = true-is-not-false (sym is ∙ kind-tells b)
-of-loop is skips P h next_arm_record b = true-is-not-false (sym is ∙ kind-tells b)
+-- what holds of the changed record of a loop's kind and body, where it holds of the loop
+pub of-loop : {own : Bool} {body : List ℕ} (skips : Bool) (P : List ℕ → Type 0) →
+    ((l : Loop) → BodyOf (loop_record l) (loop_kind own) body → P (record_bytes (loop_record (changed skips l)))) →
+    (x : Record) → BodyOf x (loop_kind own) body → P (record_bytes (change_loop (changed skips) x))
+unfolding change_loop kind
+of-loop skips P h (work_record least most) b = let n = b.named in cc
+of-loop skips P h (loop_record l) b = h l b
+of-loop skips P h end_record b = let n = b.named in cc
+of-loop skips P h choice_record b = let n = b.named in cc
+of-loop skips P h next_arm_record b = let n = b.named in cc
 
 -- how long a body is: never more than the longest, and at least 24 bytes of a loop's
-pub body-short : {x : Record} {number : ℕ} {body : List ℕ} → BodyOf x number body → length body ≤ body_limit
+pub body-short : {x : Record} {k : Kind} {body : List ℕ} → BodyOf x k body → length body ≤ body_limit
 body-short {x} b = omega (arith, b.long, body_length-bound (kind x))
 
-pub loop-long : {number : ℕ} {body : List ℕ} → is_loop number ≡ true → (x : Record) → BodyOf x number body → 24 ≤ length body
-unfolding is_loop_kind kind
-loop-long is (work_record least most) b = true-is-not-false (sym is ∙ kind-tells b)
-loop-long is (loop_record l) b = omega (arith, b.long, length-skip_bytes l.skip)
-loop-long is end_record b = true-is-not-false (sym is ∙ kind-tells b)
-loop-long is choice_record b = true-is-not-false (sym is ∙ kind-tells b)
-loop-long is next_arm_record b = true-is-not-false (sym is ∙ kind-tells b)
+pub loop-long : {own : Bool} {body : List ℕ} (x : Record) → BodyOf x (loop_kind own) body → 24 ≤ length body
+unfolding kind
+loop-long (work_record least most) b = let n = b.named in absurd (cc)
+loop-long (loop_record l) b = omega (arith, b.long, length-skip_bytes l.skip)
+loop-long end_record b = let n = b.named in absurd (cc)
+loop-long choice_record b = let n = b.named in absurd (cc)
+loop-long next_arm_record b = let n = b.named in absurd (cc)
 
 -- and how long the changed record is
-pub changed-length : {number : ℕ} {body : List ℕ} (skips : Bool) (x : Record) → BodyOf x number body →
+pub changed-length : {k : Kind} {body : List ℕ} (skips : Bool) (x : Record) → BodyOf x k body →
     length (record_bytes (change_loop (changed skips) x)) ≡ record_length (change_loop (changed skips) x)
 unfolding change_loop record_bytes record_length changed with_skip without_skip kind is_given body_length body_bytes skip_bytes
 changed-length skips (work_record least most) b = simp (length-append, length-little_endian)
-changed-length {number} {body} true (loop_record l) b =
+changed-length {k} {body} true (loop_record l) b =
     let skip : List ℕ = little_endian 2 (skip_cycles l) in
     let taken : length (take 24 body) ≡ 24 = ap length (plain-taken b) ∙ plain-long b in
     let long : length (6 ∷ (take 24 body ++ skip)) ≡ 27 = omega (arith, length-append (take 24 body) skip, length-little_endian 2 (skip_cycles l)) in

@@ -2,7 +2,7 @@
 use mathlib.Core.Path.{◌≡◌, refl, sym, ap, subst, ◌∙◌}
 use mathlib.Core.List.{List, ◌++◌}
 use mathlib.Core.Bool.{Bool}
-use Prim.Native.Nat.{ℕ, ◌-◌, ◌≤◌, ◌<◌}
+use Prim.Native.Nat.{ℕ, ◌≤◌, ◌<◌}
 use native.Mathlib.Omega.{arith}
 use lib.ListN.{length, take, drop, length-append}
 use lib.Seq.{take_at}
@@ -69,10 +69,8 @@ module _ (new : Result (List Record)) where
           let all = ap length (laid rs there-are.1) in
           omega (arith, all, length-append (sheet_bytes rs) (drop (length (sheet_bytes rs)) blank), there-are.2)
 
-      pub front : take (n - 0) target ≡ sheet_bytes rs
-      front =
-          let all : n - 0 ≡ length (sheet_bytes rs) = omega (arith, there-are.2) in
-          (λ i. take (all i) (laid rs there-are.1 i)) ∙ take_at (sheet_bytes rs) (drop (length (sheet_bytes rs)) blank) (length (sheet_bytes rs)) refl
+      pub front : take n target ≡ sheet_bytes rs
+      front = (λ i. take (there-are.2 i) (laid rs there-are.1 i)) ∙ take_at (sheet_bytes rs) (drop (length (sheet_bytes rs)) blank) (length (sheet_bytes rs)) refl
 
 -- ---- the buffer
 
@@ -104,7 +102,7 @@ module _ (new : Result (List Record)) (buffer : List ℕ) where
     -- the new sheet
     pub stored-sheet : (blank : List ℕ) {target : List ℕ} →
         ((new' : List Record) → new ≡ ok new' → target ≡ sheet_bytes new' ++ drop (length (sheet_bytes new')) blank) → n ≤ length buffer →
-        {left : List ℕ} {end : ℕ} → Appended buffer 0 (take (n - 0) target) left end → StoredAs (ok end) left
+        {left : List ℕ} {end : ℕ} → Appended buffer 0 (take n target) left end → StoredAs (ok end) left
     unfolding fit_sheet store
     stored-sheet blank laid h put =
         let fits : length (sheet_bytes (rs new long)) ≤ length buffer = omega (arith, (there-are new long).2) in

@@ -9,12 +9,12 @@ use native.Mathlib.Omega.{arith}
 use lib.ListN.{length, get_or, take, drop, length-map, drop_of_length-le}
 use lib.Seq.{length-take-le, take_all, drop-cons}
 use Rattle.meaning.specs.Limits.{record_limit, record_length_limit, sheet_length_limit}
-use Rattle.meaning.specs.Record.{Record, end_record, kind, body_length, record_length, decode_record, body_bytes, record_bytes, sheet_length, sheet_bytes}
+use Rattle.meaning.specs.Record.{Kind, kind_of, Record, end_record, kind, body_length, record_length, decode_record, body_bytes, record_bytes, sheet_length, sheet_bytes}
 use Rattle.meaning.specs.Reader.{Result, ok, refused, require, and_then, Head, head_at, body_of, body_at}
 use Rattle.meaning.specs.Converter.{change_loop, add_skips, drop_skips}
 use Rattle.meaning.proofs.Number.{Bytes, bytes_take, bytes_drop}
 use Rattle.meaning.proofs.RecordReader.{StandsAt}
-use Rattle.meaning.proofs.RecordBytes.{body_bytes-decode_record, sheet_length-bound}
+use Rattle.meaning.proofs.RecordBytes.{kind_of-kind_number, body_bytes-decode_record, sheet_length-bound}
 use Rattle.encoding.specs.Append.{Appended}
 use Rattle.encoding.proofs.Appending.{nothing, same_bytes, keeps-length}
 use Rattle.encoding.proofs.Appending as Append
@@ -84,12 +84,15 @@ module _ (sheet : List ℕ) (skips : Bool) where
       stands = subst (λ (at : ℕ). StandsAt sheet at this) (sym g.offset) (record-stands sheet number there)
 
       -- what is read of it
-      pub body-of : {byte : ℕ} {body : List ℕ} → Bytes sheet → byte ≡ get_or sheet from 0 → body ≡ body_at sheet from → BodyOf this byte body
-      body-of {byte} {body} bytes b e =
+      pub kind-named : kind_of (get_or sheet from 0) ≡ some (kind this)
+      kind-named = ap (λ (at : ℕ). kind_of (get_or sheet at 0)) g.offset ∙ ap kind_of (kind-there sheet number there) ∙ kind_of-kind_number (kind this)
+
+      pub body-of : {k : Kind} {body : List ℕ} → Bytes sheet → some k ≡ kind_of (get_or sheet from 0) → body ≡ body_at sheet from → BodyOf this k body
+      body-of {k} {body} bytes b e =
           let decoded : decode_record (kind this) body ≡ this = ap (decode_record (kind this)) e ∙ stands.decoded in
           let long : length body ≡ body_length (kind this) = ap length e ∙ stands.body_long in
           record {
-            named = b ∙ ap (λ (at : ℕ). get_or sheet at 0) g.offset ∙ kind-there sheet number there;
+            named = let same = b ∙ kind-named in cc;
             decoded = decoded;
             bytes = sym (ap body_bytes decoded) ∙ body_bytes-decode_record body (subst Bytes (sym e) (bytes-body sheet from bytes)) (kind this) long;
             long = long;
@@ -129,10 +132,10 @@ module _ (sheet : List ℕ) (skips : Bool) where
       done_more : done (number + 1) ≡ done number ++ (change_loop (changed skips) this ∷ [])
       done_more = ap (map (change_loop (changed skips))) (one_more sheet number there) ∙ map-append (change_loop (changed skips)) (take number (records_of sheet)) (this ∷ [])
 
-      pub laying-next : {byte : ℕ} {body : List ℕ} → BodyOf this byte body → false ≡ not (stays skips this) → {after : List ℕ} {end : ℕ} →
+      pub laying-next : {k : Kind} {body : List ℕ} → BodyOf this k body → false ≡ not (stays skips this) → {after : List ℕ} {end : ℕ} →
           Appended target to (record_bytes (change_loop (changed skips) this)) after end → Laying count blank after (from + (1 + length body)) end (number + 1)
       unfolding require
-      laying-next {byte} {body} b e {after} {end} put =
+      laying-next {k} {body} b e {after} {end} put =
           let reaches : 1 + length body ≡ record_length this = (unfold record_length in ap (λ (n : ℕ). 1 + n) b.long) in
           let new : Record = change_loop (changed skips) this in
           record {

@@ -1,6 +1,6 @@
 -- Both converters as one: with a skip, or without; from a record's body in the old sheet.
 use Rattle.std.specs.Prelude.{◌≡◌, List, Bool, true, false, ℕ, length}
-use Rattle.meaning.specs.Record.{kind_number, body_length, Loop, Record, kind, decode_record, body_bytes, sheet_bytes}
+use Rattle.meaning.specs.Record.{Kind, body_length, Loop, Record, kind, decode_record, body_bytes, sheet_bytes}
 use Rattle.meaning.specs.Reader.{Result, ok, refused, and_then, read}
 use Rattle.meaning.specs.Converter.{with_skip, without_skip, skips_start, add_skips, drop_skips}
 
@@ -28,9 +28,9 @@ unfoldable pub new_length : Result (List Record) → Result ℕ
 new_length (ok new) = ok (length (sheet_bytes new))
 new_length (refused number place) = refused number place
 
--- the number of its kind and its body are those of a record
-pub record BodyOf (x : Record) (number : ℕ) (body : List ℕ) : Type 0 where
-  pub named : number ≡ kind_number (kind x)
+-- the kind and the body are those of a record
+pub record BodyOf (x : Record) (k : Kind) (body : List ℕ) : Type 0 where
+  pub named : k ≡ kind x
   pub decoded : decode_record (kind x) body ≡ x
   pub bytes : body_bytes x ≡ body
   pub long : length body ≡ body_length (kind x)

@@ -4,50 +4,58 @@ ghost use Rattle.meaning.specs.Limits.{record_length_limit};
 ghost use Rattle.meaning.specs.Record as M;
 ghost use Rattle.meaning.specs.Converter.{change_loop};
 ghost use Rattle.encoding.specs.Append.{Appended};
+ghost use Rattle.records.specs.View.{meant_kind};
 ghost use Rattle.converter.specs.Converting.{BodyOf, changed, stays};
 
 use encoding::number::unsigned16_at;
 use encoding::put::{put, put_byte, put_unsigned16};
+use records::Kind;
 use records::loops::Loop;
-use records::{LOOP, SKIP_LOOP, is_loop};
 
 // Whether a loop is to lose a skip that differs from its start.
-pub(crate) fn loses_skip(kind: u8, body: &[u8], skips: bool) -> bool
-    ensures { (x : M.Record) → BodyOf x kind body.now → result ≡ not (stays skips x) }
+pub(crate) fn loses_skip(kind: Kind, body: &[u8], skips: bool) -> bool
+    ensures { (x : M.Record) → BodyOf x (meant_kind kind) body.now → result ≡ not (stays skips x) }
 {
-    if skips {
-        return false;
+    match kind {
+        Kind::SkipLoop => !skips && Loop::skip_cycles(body, true) != unsigned16_at(body, 0),
+        Kind::Work | Kind::Loop | Kind::End | Kind::Choice | Kind::NextArm => false,
     }
-    if kind != SKIP_LOOP {
-        return false;
-    }
-    Loop::skip_cycles(body, true) != unsigned16_at(body, 0)
 }
 
 // A loop with a skip or without, from its body, which has a skip of its own or has none.
 fn put_loop(body: &[u8], own: bool, skips: bool, buffer: &mut [u8], at: usize) -> usize
     requires { (24 ≤ length body.now) × (at + record_length_limit ≤ length buffer.old) }
-    ensures { (l : M.Loop) → BodyOf (M.loop_record l) (M.kind_number (M.loop_kind own)) body.now →
+    ensures { (l : M.Loop) → BodyOf (M.loop_record l) (M.loop_kind own) body.now →
         Appended buffer.old at (M.record_bytes (M.loop_record (changed skips l))) buffer.new result }
 {
+    let plain = &body[..Loop::BODY_LENGTH];
     if !skips {
-        let next = put_byte(buffer, at, LOOP);
-        return put(buffer, next, &body[0..Loop::BODY_LENGTH]);
+        let next = put_byte(buffer, at, Kind::Loop.number());
+        return put(buffer, next, plain);
     }
-    let next = put_byte(buffer, at, SKIP_LOOP);
-    let next = put(buffer, next, &body[0..Loop::BODY_LENGTH]);
+    let next = put_byte(buffer, at, Kind::SkipLoop.number());
+    let next = put(buffer, next, plain);
     put_unsigned16(buffer, next, Loop::skip_cycles(body, own))
 }
 
 // A record of a kind with its body: a loop with a skip or without, any other record as it is.
-pub(crate) fn put_record(kind: u8, body: &[u8], skips: bool, buffer: &mut [u8], at: usize) -> usize
-    requires { ((x : M.Record) × BodyOf x kind body.now) × (at + record_length_limit ≤ length buffer.old) }
-    ensures { (x : M.Record) → BodyOf x kind body.now →
+pub(crate) fn put_record(
+    kind: Kind,
+    body: &[u8],
+    skips: bool,
+    buffer: &mut [u8],
+    at: usize,
+) -> usize
+    requires { ((x : M.Record) × BodyOf x (meant_kind kind) body.now) × (at + record_length_limit ≤ length buffer.old) }
+    ensures { (x : M.Record) → BodyOf x (meant_kind kind) body.now →
         Appended buffer.old at (M.record_bytes (change_loop (changed skips) x)) buffer.new result }
 {
-    if is_loop(kind) {
-        return put_loop(body, kind == SKIP_LOOP, skips, buffer, at);
+    match kind {
+        Kind::Loop => put_loop(body, false, skips, buffer, at),
+        Kind::SkipLoop => put_loop(body, true, skips, buffer, at),
+        Kind::Work | Kind::End | Kind::Choice | Kind::NextArm => {
+            let next = put_byte(buffer, at, kind.number());
+            put(buffer, next, body)
+        }
     }
-    let next = put_byte(buffer, at, kind);
-    put(buffer, next, body)
 }
