@@ -6,7 +6,7 @@ use native.Mathlib.Omega.{arith}
 use Rattle.std.proofs.lemmas.Bool.Decides.{nat_tests}
 use borrow.Author.Tests.{eq-eqb, ne_eqb}
 use lib.Dec.{eqb}
-use denote.Enum.Bare.{sameb}
+use denote.Enum.Bare.{sameb, differs_true, differs_false}
 use denote.Enum.Declared.{tag_of}
 use Rattle.layout.specs.contracts.rows.Role.{the_type}
 use Rattle.layout.specs.declared.rows.Role.TheVariants as roles
@@ -90,3 +90,10 @@ module _ (r : Role) (k : known r ≡ true) {role : Role} (n : ℕ) (read : role 
 
   pub role-test-not : {b : Bool} → b ≡ not (sameb the_type role r) → b ≡ not (eqb n (role_number r))
   role-test-not t = t ∙ ap not role-same
+
+  -- the branches of an `if` on `!=`
+  pub role-found : {b : Bool} → b ≡ not (sameb the_type role r) → b ≡ false → n ≡ role_number r
+  role-found t e = role-is (differs_false the_type tt role r (sym t ∙ e))
+
+  pub role-other : {b : Bool} → b ≡ not (sameb the_type role r) → b ≡ true → n ≡ role_number r → ⊥
+  role-other t e = role-is-not (differs_true the_type role r (sym t ∙ e))

@@ -7,3 +7,4 @@ pub mod Holding
 pub mod LoopsRead
 pub mod AtRecord
 pub mod Surveying
+pub mod Pushes

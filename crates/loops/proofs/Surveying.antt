@@ -184,8 +184,8 @@ module _ {sheet : List ℕ} {count : ℕ} {ps : List ℤ} {words₀ facts₀ wor
     taken : take (n + 1) all_facts ≡ take n all_facts ++ (get_or all_facts n none ∷ [])
     taken = ap (λ (m : ℕ). take m all_facts) (add-one n) ∙ take-suc all_facts n none in-facts
 
-    pub surveying-role : {role : ℕ} → role ≡ role_at rows n → role ≡ role_number (role_of this)
-    surveying-role r = r ∙ role-is sheet ps n there held
+    surveying-role : role_at rows n ≡ role_number (role_of this)
+    surveying-role = role-is sheet ps n there held
 
     place : {at : ℕ} → at ≡ offset_at rows n → at ≡ sheet_length (take n rs)
     place e = e ∙ offset-is sheet ps n there held
@@ -198,9 +198,9 @@ module _ {sheet : List ℕ} {count : ℕ} {ps : List ℤ} {words₀ facts₀ wor
           after os (opens_through [] (take (n + 1) rs)) g.opens (ap (open_after_kind os) number ∙ opens-next sheet n there)
 
       -- another record
-      pub surveying-skip : {role : ℕ} → role ≡ role_at rows n → (role ≡ 1 → ⊥) → Surveying sheet count ps words₀ facts₀ words facts a pushes here2 (n + 1)
-      surveying-skip r other =
-          let no_loop : role_number (role_of this) ≡ 1 → ⊥ = λ e. other (surveying-role r ∙ e) in
+      pub surveying-skip : (role_at rows n ≡ 1 → ⊥) → Surveying sheet count ps words₀ facts₀ words facts a pushes here2 (n + 1)
+      surveying-skip other =
+          let no_loop : role_number (role_of this) ≡ 1 → ⊥ = λ e. other (surveying-role ∙ e) in
           let none_here : get_or all_facts n none ≡ none = fact-at sheet ps n there ∙ no-facts ps os es this no_loop in
           let over = holding-over ps os es a pushes this no_loop g.shallow (open-loops-at sheet ps n there) g.holding in
           let us = opens-step sheet ps n there in
@@ -226,10 +226,10 @@ module _ {sheet : List ℕ} {count : ℕ} {ps : List ℤ} {words₀ facts₀ wor
           }
 
     -- a loop, from what is read of its record
-    module _ (four : FourSmall ps) {role : ℕ} (role_is : role ≡ role_at rows n) (is_loop : role ≡ 1) {at : ℕ} (at_is : at ≡ offset_at rows n) {forms : Forms}
+    module _ (four : FourSmall ps) (is_loop : role_at rows n ≡ 1) {at : ℕ} (at_is : at ≡ offset_at rows n) {forms : Forms}
         (forms_are : (l : Loop) → decode_record (loop_kind (eqb (get_or sheet at 0) 6)) (body_at sheet at) ≡ loop_record l → FormsOf l ps forms) where
       found : (l : Loop) × (this ≡ loop_record l)
-      found = loop-there this (sym (surveying-role role_is) ∙ is_loop)
+      found = loop-there this (sym surveying-role ∙ is_loop)
 
       abbrev l : Loop
       l = found.0

@@ -3,18 +3,16 @@
 
 mod forms;
 
-ghost use Rattle.std.specs.Prelude.{◌≡◌, cond, ◌<◌, ◌^◌, ltb, length};
+ghost use Rattle.std.specs.Prelude.{◌≡◌, cond, ◌<◌, ◌^◌, ltb, length, Some, None};
 ghost use Rattle.std.proofs.Math.Option.{none, some};
-ghost use Rattle.std.proofs.Math.Seq.{paste};
 ghost use Rattle.meaning.specs.Limits.{ceiling_limit};
 ghost use Rattle.form.specs.Forms.{wide_form};
 ghost use Rattle.layout.specs.Numbers.{stored_in};
 ghost use Rattle.layout.specs.Rows.{offset_at};
-ghost use Rattle.layout.specs.Loops.{difference_from, difference_width, fact_from, fact_width, fact_numbers};
 ghost use Rattle.sheet.specs.Sheets.{records_of};
 ghost use Rattle.nest.specs.Rows.{rows_of};
 ghost use Rattle.loops.specs.Facts.{within_ceiling, words_stored, facts_stored, sheet_facts, over_ceiling};
-ghost use Rattle.loops.specs.Reckoned.{loop_words, ceiling_within, fact_within, FourSmall};
+ghost use Rattle.loops.specs.Reckoned.{ceiling_within, fact_within, FourSmall};
 ghost use Rattle.nest.specs.Known.{RowsHeld};
 
 use crate::forms::{
@@ -22,65 +20,42 @@ use crate::forms::{
 };
 use encoding::number::byte_at;
 use form::{MAX_DEPTH, Parameters, PerLoop};
-use layout::differences::{Differences, put_difference};
-use layout::facts::{Fact, Facts, put_fact};
-use layout::rows::{LOOP, Rows, loop_at, offset_at, role_at};
+use layout::PlanArrays;
+use layout::differences::put_difference;
+use layout::facts::{Fact, put_fact};
+use layout::rows::{Role, loop_at, offset_at, role_at};
 use records::loops::Loop;
 use sheet::nesting::Nesting;
 
-// Stores what the parameters make of the loop with this number among the loops, unless its ceiling is above the limit; answers whether it is.
-fn note_loop(
-    forms: Forms,
-    number: usize,
-    barred: Barred,
-    depth: usize,
-    around: Around,
-    pushes: [PerLoop; MAX_DEPTH],
-    differences: &mut Differences,
-    facts: &mut Facts,
-) -> bool
+// What is known of a loop; nothing where its ceiling is above the limit.
+fn fact_of(forms: Forms, barred: Barred, around: Around) -> Option<Fact>
     requires { (0 < forms.size) × ((barred.choice < 2 ^ 16) × (barred.rank < 2 ^ 16)) }
-    ensures over { result ≡ ltb ceiling_limit (ceiling_within (wide_form forms.difference) forms.size around) }
-    ensures differences { differences.new ≡ cond result differences.old (paste differences.old (difference_from number)
-        (loop_words (wide_form forms.difference) forms.size depth around.starts pushes) difference_width) }
-    ensures facts { facts.new ≡ cond result facts.old (paste facts.old (fact_from number)
-        (fact_numbers (fact_within (wide_form forms.difference) forms.size forms.asked barred around)) fact_width) }
+    ensures { result ≡ cond (ltb ceiling_limit (ceiling_within (wide_form forms.difference) forms.size around)) None
+        (Some (fact_within (wide_form forms.difference) forms.size forms.asked barred around)) }
 {
-    let difference = forms.difference;
-    let found = reach(difference, forms.size, forms.asked, around);
+    let found = reach(forms.difference, forms.size, forms.asked, around);
     if Loop::MAX_CEILING < found.ceiling {
-        return true;
+        return None;
     }
-    let starts = around.starts;
-    let words = loop_words(difference, forms.size, depth, starts, pushes);
-    put_difference(differences, number, words);
-    let fact = Fact {
+    Some(Fact {
         ceiling: found.ceiling as u16,
         choice: barred.choice as u16,
         rank: barred.rank as u16,
         enough: found.enough,
-    };
-    put_fact(facts, number, fact);
-    false
+    })
 }
 
 // What the parameters make of the loops; answers the number of the first record that is a loop whose ceiling is above the limit, or `count`. What
 // comes from that record on is not stored.
-pub fn survey(
-    sheet: &[u8],
-    count: usize,
-    parameters: Parameters,
-    rows: &Rows,
-    differences: &mut Differences,
-    facts: &mut Facts,
-) -> usize
-    requires { (count ≡ length (records_of sheet.now)) × (RowsHeld rows.now (records_of sheet.now) × FourSmall parameters) }
+pub fn survey(sheet: &[u8], count: usize, parameters: Parameters, arrays: &mut PlanArrays) -> usize
+    requires { (count ≡ length (records_of sheet.now)) × (RowsHeld arrays.old.rows (records_of sheet.now) × FourSmall parameters) }
     ensures over { over_ceiling (rows_of (records_of sheet.now)) (sheet_facts parameters (records_of sheet.now))
-        ≡ cond (ltb result count) (some (offset_at rows.now result)) none }
-    ensures differences { differences.new
-        ≡ stored_in differences.old (words_stored (within_ceiling (sheet_facts parameters (records_of sheet.now)))) }
-    ensures facts { facts.new
-        ≡ stored_in facts.old (facts_stored (within_ceiling (sheet_facts parameters (records_of sheet.now)))) }
+        ≡ cond (ltb result count) (some (offset_at arrays.old.rows result)) none }
+    ensures differences { arrays.new.differences
+        ≡ stored_in arrays.old.differences (words_stored (within_ceiling (sheet_facts parameters (records_of sheet.now)))) }
+    ensures facts { arrays.new.facts
+        ≡ stored_in arrays.old.facts (facts_stored (within_ceiling (sheet_facts parameters (records_of sheet.now)))) }
+    ensures others { (arrays.new.rows ≡ arrays.old.rows) × (arrays.new.limits ≡ arrays.old.limits) }
 {
     let none: PerLoop = [0; MAX_DEPTH];
     let mut around = Around {
@@ -88,37 +63,34 @@ pub fn survey(
         hi: none,
         starts: none,
     };
-    let mut pushes: [PerLoop; MAX_DEPTH] = [[0; MAX_DEPTH]; MAX_DEPTH];
+    let mut pushes: [PerLoop; MAX_DEPTH] = [none; MAX_DEPTH];
     let mut here = Nesting::nothing();
-    let mut number: usize = 0;
-    while number < count {
-        let at = offset_at(rows, number);
+    for number in 0..count {
+        let at = offset_at(&arrays.rows, number);
         let kind = byte_at(sheet, at);
-        if role_at(rows, number) != LOOP {
+        if role_at(&arrays.rows, number) != Role::Loop {
             here = here.after(kind);
-            number += 1;
             continue;
         }
         let forms = forms_at(sheet, at, parameters);
-        let barred = barred_by(here);
-        if note_loop(
-            forms,
-            loop_at(rows, number),
-            barred,
-            here.depth,
-            around,
-            pushes,
-            differences,
-            facts,
-        ) {
+        let Some(fact) = fact_of(forms, barred_by(here), around) else {
             return number;
-        }
+        };
+        let of_loop = loop_at(&arrays.rows, number);
+        let words = loop_words(
+            forms.difference,
+            forms.size,
+            here.depth,
+            around.starts,
+            pushes,
+        );
+        put_difference(&mut arrays.differences, of_loop, words);
+        put_fact(&mut arrays.facts, of_loop, fact);
         let inside = around_with(forms, here.depth, around);
         let deeper = pushes_with(forms, here.depth, pushes);
-        here = here.after(kind);
         around = inside;
         pushes = deeper;
-        number += 1;
+        here = here.after(kind);
     }
     count
 }

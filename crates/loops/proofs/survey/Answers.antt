@@ -1,64 +1,96 @@
--- The invariant: the loops passed are stored and within the ceiling, and the open ones' indexes are held. The measure is how many records are left.
-use native.Mathlib.Omega.{arith}
-use Rattle.sheet.proofs.SheetRecords.{few-records}
-use Rattle.loops.proofs.Surveying.{surveying-start, surveying-done, surveying-skip, surveying-over, surveying-next}
-use Rattle.loops.proofs.Surveying.{stride-range, depth-range, barred-small}
+-- The invariant: the loops passed are stored and within the ceiling, and the open ones' indexes are held; the rows and the limits stay.
+use mathlib.Core.Path.{◌≡◌, refl, sym, ap, ◌∙◌, subst}
+use mathlib.Core.Bool.{Bool, true, false, cond}
+use mathlib.Core.List.{List}
+use Prim.Native.Nat.{ℕ}
+use lib.Dec.{ltb}
+use lib.Seq.{paste}
+use mathlib.Core.Option.{some, none}
+use Rattle.std.specs.Prelude.{Some, None}
+use Rattle.layout.specs.declared.facts.Fact.{Fact}
+use Rattle.layout.specs.Rows.{role_number, loop_role, offset_at}
+use Rattle.layout.proofs.Roles.{role-found, role-other}
+use Rattle.layout.specs.Loops.{difference_from, difference_width, fact_from, fact_width, fact_numbers}
+use Rattle.meaning.specs.Record.{Record}
+use Rattle.nest.specs.Known.{RowsHeld}
+use Rattle.loops.proofs.Surveying.{surveying-start, surveying-done, surveying-skip, surveying-over, surveying-next, stride-range, depth-range, barred-small}
 use Rattle.loops.proofs.survey.Goals as goal
+
+-- what `fact_of` answers says whether the ceiling is above the limit
+none-over : (over : Bool) (x : Fact) → None ≡ cond over None (Some x) → true ≡ over
+none-over true x e = refl
+none-over false x e = cc
+
+some-under : (over : Bool) (x y : Fact) → Some y ≡ cond over None (Some x) → (false ≡ over) × (y ≡ x)
+some-under true x y e = cc
+some-under false x y e = (refl, cc)
+
+rows-held : {rows rows0 : List ℕ} {rs : List Record} → rows ≡ rows0 → RowsHeld rows0 rs → RowsHeld rows rs
+rows-held {rs = rs} e h = subst (λ (rows : List ℕ). RowsHeld rows rs) (sym e) h
 
 pub loop-number-init : goal.loop-number-init
 loop-number-init c =
-    surveying-start c.args.parameters c.args.differences.now c.args.facts.now c.requires.0 c.nothing-here.ensures
+    (surveying-start c.args.parameters c.args.arrays.now.differences c.args.arrays.now.facts c.requires.0 c.nothing-here.ensures, (refl, refl))
 
-pub loop-number-preserved-then-role_at-ne-LOOP : goal.loop-number-preserved-then-role_at-ne-LOOP
-loop-number-preserved-then-role_at-ne-LOOP c =
-    surveying-skip c.loop-number.invariant c.loop-number-test.true c.requires.1.0 c.offset_at-at.ensures
-    c.byte_at-kind.ensures c.after-here.ensures.«open» c.role_at.ensures c.if-role_at-ne-LOOP.true
-
-pub note_loop-requires : goal.note_loop-requires
-note_loop-requires c = (
-  (stride-range c.loop-number.invariant c.loop-number-test.true c.requires.1.0 c.requires.1.1
-      c.role_at.ensures c.if-role_at-ne-LOOP.false c.offset_at-at.ensures c.forms_at-forms.ensures),
-  barred-small c.loop-number.invariant c.loop-number-test.true c.requires.1.0 c.requires.1.1
-      c.role_at.ensures c.if-role_at-ne-LOOP.false c.offset_at-at.ensures c.forms_at-forms.ensures
-      (c.barred_by-barred.ensures _ c.loop-number.invariant.opens),
+pub loop-number-preserved-then-ne : goal.loop-number-preserved-then-ne
+unfolding role_number
+loop-number-preserved-then-ne c = (
+  surveying-skip c.loop-number.invariant.0 c.loop-number-test.true (rows-held c.loop-number.invariant.1.0 c.requires.1.0)
+      c.offset_at-at.ensures c.byte_at-kind.ensures c.after-here.ensures.«open» (role-other loop_role refl _ c.role_at.ensures c.ne.ensures c.if-ne.true),
+  c.loop-number.invariant.1,
 )
 
-pub returns-then-note_loop : goal.returns-then-note_loop
-returns-then-note_loop c =
-    let noted = c.note_loop.ensures in
-    let above = surveying-over c.loop-number.invariant c.loop-number-test.true c.requires.1.0 c.requires.1.1
-    c.role_at.ensures c.if-role_at-ne-LOOP.false c.offset_at-at.ensures c.forms_at-forms.ensures
-    noted.over c.loop_at.ensures (c.barred_by-barred.ensures _ c.loop-number.invariant.opens)
-    noted.differences noted.facts c.if-note_loop.true in
-    record { over = above.0; differences = above.1.0; facts = above.1.1 }
+pub fact_of-requires : goal.fact_of-requires
+unfolding role_number
+fact_of-requires c =
+    let held = rows-held c.loop-number.invariant.1.0 c.requires.1.0 in
+    let loop = role-found loop_role refl _ c.role_at.ensures c.ne.ensures c.if-ne.false in (
+      stride-range c.loop-number.invariant.0 c.loop-number-test.true held c.requires.1.1 loop c.offset_at-at.ensures c.forms_at-forms.ensures,
+      barred-small c.loop-number.invariant.0 c.loop-number-test.true held c.requires.1.1 loop c.offset_at-at.ensures c.forms_at-forms.ensures
+          (c.barred_by.ensures _ c.loop-number.invariant.0.opens),
+    )
 
 pub around_with-inside-requires : goal.around_with-inside-requires
+unfolding role_number
 around_with-inside-requires c =
-    depth-range c.loop-number.invariant c.loop-number-test.true c.requires.1.0 c.requires.1.1
-    c.role_at.ensures c.if-role_at-ne-LOOP.false c.offset_at-at.ensures c.forms_at-forms.ensures
+    depth-range c.loop-number.invariant.0 c.loop-number-test.true (rows-held c.loop-number.invariant.1.0 c.requires.1.0) c.requires.1.1
+    (role-found loop_role refl _ c.role_at.ensures c.ne.ensures c.if-ne.false) c.offset_at-at.ensures c.forms_at-forms.ensures
 
 pub pushes_with-deeper-requires : goal.pushes_with-deeper-requires
+unfolding role_number
 pushes_with-deeper-requires c =
-    depth-range c.loop-number.invariant c.loop-number-test.true c.requires.1.0 c.requires.1.1
-    c.role_at.ensures c.if-role_at-ne-LOOP.false c.offset_at-at.ensures c.forms_at-forms.ensures
+    depth-range c.loop-number.invariant.0 c.loop-number-test.true (rows-held c.loop-number.invariant.1.0 c.requires.1.0) c.requires.1.1
+    (role-found loop_role refl _ c.role_at.ensures c.ne.ensures c.if-ne.false) c.offset_at-at.ensures c.forms_at-forms.ensures
 
-pub overflow_add-number-in-loop-number : goal.overflow_add-number-in-loop-number
-overflow_add-number-in-loop-number c =
-    record { fits = omega (arith, c.loop-number-test.true, c.loop-number.invariant.all, few-records c.args.sheet.now) }
-
-pub loop-number-smaller : goal.loop-number-smaller
-loop-number-smaller c = omega (arith, c.loop-number-test.true)
+pub returns-in_default : goal.returns-in_default
+unfolding role_number
+returns-in_default c =
+    let held = rows-held c.loop-number.invariant.1.0 c.requires.1.0 in
+    let loop = role-found loop_role refl _ c.role_at.ensures c.ne.ensures c.if-ne.false in
+    let above = surveying-over c.loop-number.invariant.0 c.loop-number-test.true held c.requires.1.1 loop c.offset_at-at.ensures c.forms_at-forms.ensures
+    (none-over _ _ (sym c.in_default.is ∙ c.fact_of.ensures)) refl (c.barred_by.ensures _ c.loop-number.invariant.0.opens) refl refl refl in
+    record {
+      over = above.0 ∙ ap (λ (rows : List ℕ). cond (ltb c.loop-number.number c.args.count) (some (offset_at rows c.loop-number.number)) none) c.loop-number.invariant.1.0;
+      differences = above.1.0;
+      facts = above.1.1;
+      others = c.loop-number.invariant.1;
+    }
 
 pub loop-number-preserved : goal.loop-number-preserved
+unfolding role_number
 loop-number-preserved c =
-    let noted = c.note_loop.ensures in
-    surveying-next c.loop-number.invariant c.loop-number-test.true c.requires.1.0 c.requires.1.1
-    c.role_at.ensures c.if-role_at-ne-LOOP.false c.offset_at-at.ensures c.forms_at-forms.ensures
-    noted.over c.loop_at.ensures (c.barred_by-barred.ensures _ c.loop-number.invariant.opens)
-    noted.differences noted.facts c.if-note_loop.false c.byte_at-kind.ensures c.after-here-in-loop-number.ensures.«open»
-    c.around_with-inside.ensures c.pushes_with-deeper.ensures
+    let held = rows-held c.loop-number.invariant.1.0 c.requires.1.0 in
+    let loop = role-found loop_role refl _ c.role_at.ensures c.ne.ensures c.if-ne.false in
+    let known = some-under _ _ _ (sym c.in-Some.is ∙ c.fact_of.ensures) in (
+      surveying-next c.loop-number.invariant.0 c.loop-number-test.true held c.requires.1.1 loop c.offset_at-at.ensures c.forms_at-forms.ensures
+          known.0 c.loop_at-of_loop.ensures (c.barred_by.ensures _ c.loop-number.invariant.0.opens)
+          (c.put_difference.ensures ∙ ap (λ (words : List ℕ). paste c.loop-number.arrays.differences (difference_from c.loop_at-of_loop.result) words difference_width) c.loop_words-words.ensures)
+          (c.put_fact.ensures ∙ ap (λ (fact : Fact). paste c.loop-number.arrays.facts (fact_from c.loop_at-of_loop.result) (fact_numbers fact) fact_width) known.1)
+          refl c.byte_at-kind.ensures c.after-here-in-loop-number.ensures.«open» c.around_with-inside.ensures c.pushes_with-deeper.ensures,
+      c.loop-number.invariant.1,
+    )
 
 pub returns : goal.returns
 returns c =
-    let done = surveying-done c.loop-number.invariant c.loop-number-test.false c.args.rows.now in
-    record { over = done.0; differences = done.1.0; facts = done.1.1 }
+    let done = surveying-done c.loop-number.invariant.0 c.loop-number-test.false c.args.arrays.now.rows in
+    record { over = done.0; differences = done.1.0; facts = done.1.1; others = c.loop-number.invariant.1 }

@@ -17,7 +17,7 @@ returns c =
     ∙ (λ i. cond given.forms.down range_down range_up (c.range-low.ensures i) (c.range-up.ensures i)) in
     let least = to_z-of_z {w = w64} (record { sfits = c.struct_told-1.given.0.1 }) ∙ ap (λ (r : Range). r.lo) index in
     let most = to_z-of_z {w = w64} (record { sfits = c.struct_told-2-1.given.1.0.1 }) ∙ ap (λ (r : Range). r.hi) index in
-    let start = to_z-of_z {w = w64} (record { sfits = c.at-start.type_inv }) ∙ c.at-start.ensures in
+    let start = to_z-of_z {w = w64} (record { sfits = c.at.type_inv }) ∙ c.at.ensures in
     λ i. record {
       lo = set given.around.lo given.depth (least i);
       hi = set given.around.hi given.depth (most i);

@@ -15,5 +15,5 @@ returns c l e =
     let given = c.args in
     let same =
     c.decode-source.ensures.fields
-    ∙ ap₂ (λ (n : ℕ) (bytes : List ℕ). decode_record (loop_kind (eqb n 6)) bytes) c.byte_at-skips.ensures c.body_at.ensures ∙ e in
+    ∙ ap₂ (λ (n : ℕ) (bytes : List ℕ). decode_record (loop_kind (eqb n 6)) bytes) c.byte_at.ensures c.body_at.ensures ∙ e in
     subst (λ (x : Loop). FormsOf x given.parameters c.forms_of.result) (loop-injective same) c.forms_of.ensures

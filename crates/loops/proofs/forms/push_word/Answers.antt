@@ -2,9 +2,8 @@
 use mathlib.Core.Path.{◌∙◌, ap}
 use Rattle.layout.specs.Loops.{word_of}
 use Rattle.loops.specs.Reckoned.{push_word}
+use Rattle.loops.proofs.Words.{word-handed}
 use borrow.Author.Tests.{lt-ltb, le-ltb}
-use mir.Facts.{to_z-of_z}
-use mir.Syntax.{w64}
 use Rattle.loops.proofs.forms.push_word.Goals as goal
 
 pub returns-then-depth-m : goal.returns-then-depth-m
@@ -15,5 +14,4 @@ pub returns : goal.returns
 unfolding push_word
 returns c =
     let given = c.args in
-    rw (lt-ltb given.m given.depth c.if-depth-m.false)
-    (c.word.ensures ∙ ap word_of (to_z-of_z {w = w64} (record { sfits = c.push.type_inv }) ∙ c.push.ensures))
+    rw (lt-ltb given.m given.depth c.if-depth-m.false) (word-handed (record { sfits = c.push.type_inv }) c.cast_unsigned.ensures ∙ ap word_of c.push.ensures)

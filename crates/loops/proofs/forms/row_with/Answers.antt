@@ -11,4 +11,4 @@ pub returns : goal.returns
 unfolding row_with
 returns c =
     let given = c.args in
-    ap (set (get_or given.pushes given.m []) given.depth) (to_z-of_z {w = w64} (record { sfits = c.push-added.type_inv }) ∙ c.push-added.ensures)
+    ap (set (get_or given.pushes given.m []) given.depth) (to_z-of_z {w = w64} (record { sfits = c.push.type_inv }) ∙ c.push.ensures)
