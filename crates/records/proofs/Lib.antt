@@ -1,4 +1,3 @@
 pub mod Tests
 pub mod ByKind
-pub mod Strides
 pub mod Ranges

@@ -2,19 +2,20 @@
 use mathlib.Core.Path.{◌≡◌, refl, sym, ap, ◌∙◌}
 use mathlib.Core.List.{List, [], ◌∷◌}
 use mathlib.Core.Logic.{◌⊎◌, ⊎_elim}
-use mathlib.Core.Bool.{Bool, true, false, cond, ◌&&◌, ◌||◌, and-true}
+use mathlib.Core.Bool.{Bool, true, false, cond, ◌&&◌, and-true}
 use Prim.Native.Nat.{ℕ, zero, suc, ◌+◌, ◌-◌, ◌<◌, ◌≤◌}
 use native.Mathlib.Omega.{arith}
 use borrow.Author.Tests.{ltb-false, lt-ltb, le-leb, ne_eqb}
-use lib.IntN.{ℤ, pos, negsuc, nat_abs}
+use lib.IntN.{pos, negsuc, nat_abs}
 use lib.Signed.{mag}
 use lib.ListN.{get_or, drop}
 use lib.Seq.{drop-nil}
 use lib.Dec.{leb, ltb, eqb}
-use Rattle.meaning.specs.Limits.{cost_limit, stride_limit, constant_half, factor_half}
+use Rattle.std.specs.List.{list_all, range_with_len}
+use Rattle.meaning.specs.Limits.{index_factors, cost_limit, stride_limit, constant_half, factor_half}
 use Rattle.meaning.specs.Number.{decode_signed, has_pattern, unsigned16, signed16, signed8}
 use Rattle.meaning.specs.Form.{form_at, is_zero, all_zero, factors_fit, form_in_range}
-use Rattle.meaning.specs.Record.{work_kind, loop_kind, stride_size, skip_cycles, decode_record, Open, loop_depth, fields_in_range}
+use Rattle.meaning.specs.Record.{loop_kind, stride_size, skip_cycles, decode_record, Open, loop_depth, fields_in_range}
 use Rattle.meaning.proofs.Accepted.{loop-in-range}
 use Rattle.records.specs.View.{skip_in}
 use Rattle.records.proofs.Tests.{and-pass, and-stop, refuted}
@@ -34,44 +35,25 @@ zero_pattern half b h = go (ltb b half) refl
     go true e = positive b
     go false e = let k = ltb-false b half e in sym (ne_eqb b 0 (λ z. omega arith))
 
-pub zero-factor : (body : List ℕ) (at : ℕ) {b : ℕ} → b ≡ get_or body at 0 → eqb b 0 ≡ is_zero (signed8 body at)
+zero-factor : (body : List ℕ) (at : ℕ) → eqb (get_or body at 0) 0 ≡ is_zero (signed8 body at)
 unfolding signed8
-zero-factor body at e = ap (λ (b : ℕ). eqb b 0) e ∙ sym (zero_pattern factor_half (get_or body at 0) (omega arith))
-
--- three factors of which only those from the depth on count
-by-depth : (x y z : ℤ) (depth : ℕ)
-    → (ltb 0 depth || is_zero x) && ((ltb 1 depth || is_zero y) && (ltb 2 depth || is_zero z)) ≡ all_zero (drop depth (x ∷ y ∷ z ∷ []))
-unfolding all_zero
-by-depth x y z zero = ap (λ (b : Bool). is_zero x && (is_zero y && b)) (sym (and-true (is_zero z)))
-by-depth x y z (suc zero) = ap (λ (b : Bool). is_zero y && b) (sym (and-true (is_zero z)))
-by-depth x y z (suc (suc zero)) = sym (and-true (is_zero z))
-by-depth x y z (suc (suc (suc depth))) =
-    (λ i. (lt-ltb 0 (suc (suc (suc depth))) (omega arith) i || is_zero x)
-    && ((lt-ltb 1 (suc (suc (suc depth))) (omega arith) i || is_zero y) && (lt-ltb 2 (suc (suc (suc depth))) (omega arith) i || is_zero z)))
-    ∙ sym (ap all_zero (drop-nil depth))
+zero-factor body at = sym (zero_pattern factor_half (get_or body at 0) (omega arith))
 
 -- the factors of a form in a body: those that count are 0
 abbrev pub enclosed : List ℕ → ℕ → ℕ → Bool
 enclosed body at depth = all_zero (drop depth (signed8 body at ∷ signed8 body (at + 1) ∷ signed8 body (at + 2) ∷ []))
 
--- the three factors, tested one after another
-module _ (body : List ℕ) (at depth : ℕ) where
-  abbrev allowed : ℕ → Bool
-  allowed k = ltb k depth || is_zero (signed8 body (at + k))
-
-  all_three : {first : Bool} → first ≡ ltb 0 depth || is_zero (signed8 body at) → first && (allowed 1 && allowed 2) ≡ enclosed body at depth
-  all_three e = ap (λ (b : Bool). b && (allowed 1 && allowed 2)) e ∙ by-depth (signed8 body at) (signed8 body (at + 1)) (signed8 body (at + 2)) depth
-
-  module _ {first : Bool} (e : first ≡ ltb 0 depth || is_zero (signed8 body at)) where
-    pub first_stops : first ≡ false → first ≡ enclosed body at depth
-    first_stops f = and-stop first (allowed 1 && allowed 2) f (all_three e)
-
-    module _ (t : first ≡ true) {second : Bool} (g : second ≡ allowed 1) where
-      pub second-stops : second ≡ false → second ≡ enclosed body at depth
-      second-stops f = g ∙ and-stop (allowed 1) (allowed 2) (sym g ∙ f) (and-pass first (allowed 1 && allowed 2) t (all_three e))
-
-      pub third-decides : second ≡ true → {third : Bool} → third ≡ allowed 2 → third ≡ enclosed body at depth
-      third-decides u h = h ∙ and-pass (allowed 1) (allowed 2) (sym g ∙ u) (and-pass first (allowed 1 && allowed 2) t (all_three e))
+-- those from the depth on, byte by byte
+pub by-depth : (body : List ℕ) (at depth : ℕ) → list_all (λ (i : ℕ). eqb (get_or body (at + i) 0) 0) (range_with_len depth (index_factors - depth)) ≡ enclosed body at depth
+unfolding all_zero
+by-depth body at zero =
+    let first : at + 0 ≡ at = omega arith in
+    λ i. (ap (λ (n : ℕ). eqb (get_or body n 0) 0) first ∙ zero-factor body at) i && (zero-factor body (at + 1) i && (zero-factor body (at + 2) i && true))
+by-depth body at (suc zero) = λ i. zero-factor body (at + 1) i && (zero-factor body (at + 2) i && true)
+by-depth body at (suc (suc zero)) = λ i. zero-factor body (at + 2) i && true
+by-depth body at (suc (suc (suc depth))) =
+    let none : index_factors - suc (suc (suc depth)) ≡ 0 = omega arith in
+    ap (λ (n : ℕ). list_all (λ (i : ℕ). eqb (get_or body (at + i) 0) 0) (range_with_len (suc (suc (suc depth))) n)) none ∙ sym (ap all_zero (drop-nil depth))
 
 -- ---- a form that was decoded has its nine bytes
 
@@ -98,13 +80,6 @@ decoded-form-in-range depth body at =
     and-trues : (b : Bool) → b && true && true && true && true && true ≡ b
     and-trues true = refl
     and-trues false = refl
-
--- ---- a work
-
-pub work-fits : (os : List Open) (body : List ℕ) {least most : ℕ} → least ≡ unsigned16 body 0 → most ≡ unsigned16 body 2
-    → leb least most && leb most cost_limit ≡ fields_in_range os (decode_record work_kind body)
-unfolding fields_in_range decode_record
-work-fits os body p q = λ i. leb (p i) (q i) && leb (q i) cost_limit
 
 -- ---- a loop
 

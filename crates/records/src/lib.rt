@@ -60,7 +60,7 @@ pub const MAX_SHEET_LENGTH: usize = MAX_RECORDS * MAX_RECORD_LENGTH;
 
 #[derive(Clone, Copy, PartialEq, Eq)]
 pub struct Record {
-    // A number and no `Kind`, since the writer refuses 2 for a record with any other number.
+    // Stays a number, since the writer refuses 2 for a record with one that no kind has.
     pub kind: u8,
     pub work: Work,
     pub looping: Loop,

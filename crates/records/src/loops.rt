@@ -9,7 +9,7 @@ ghost use Rattle.form.specs.Packed.{form_of};
 ghost use Rattle.records.specs.View.{blank_loop, loop_of, skip_in};
 
 use encoding::number::{byte_at, signed8_at, signed16_at, unsigned16_at};
-use form::packed::PackedForm;
+use form::packed::{INDEX_FACTORS, PackedForm};
 
 // A negative stride counts down. Of kind 2, which has no skip of its own, the skip's field is 0.
 #[derive(Clone, Copy, PartialEq, Eq)]
@@ -40,26 +40,20 @@ fn form_at(body: &[u8], at: usize) -> PackedForm
     requires { at + 8 < 2 ^ 64 }
     ensures { form_of result ≡ form_at body.now at }
 {
-    let constant = signed16_at(body, at);
-    let i1 = signed8_at(body, at + 2);
-    let i2 = signed8_at(body, at + 3);
-    let i3 = signed8_at(body, at + 4);
-    let p1 = signed8_at(body, at + 5);
-    let p2 = signed8_at(body, at + 6);
-    let p3 = signed8_at(body, at + 7);
-    let p4 = signed8_at(body, at + 8);
     PackedForm {
-        constant: constant,
-        index: [i1, i2, i3],
-        parameter: [p1, p2, p3, p4],
+        constant: signed16_at(body, at),
+        index: [
+            signed8_at(body, at + 2),
+            signed8_at(body, at + 3),
+            signed8_at(body, at + 4),
+        ],
+        parameter: [
+            signed8_at(body, at + 5),
+            signed8_at(body, at + 6),
+            signed8_at(body, at + 7),
+            signed8_at(body, at + 8),
+        ],
     }
-}
-
-// Whether a factor is one of an enclosing loop, or 0.
-fn factor_allowed(body: &[u8], at: usize, enclosing: bool) -> bool
-    ensures { result ≡ enclosing || is_zero (signed8 body.now at) }
-{
-    enclosing || byte_at(body, at) == 0
 }
 
 // Whether the factors of depths that do not enclose the loop are 0: three bytes from an offset of its body.
@@ -68,18 +62,19 @@ fn factors_enclosed(body: &[u8], at: usize, depth: usize) -> bool
     ensures { result ≡ all_zero (drop depth
         (signed8 body.now at ∷ signed8 body.now (at + 1) ∷ signed8 body.now (at + 2) ∷ [])) }
 {
-    factor_allowed(body, at, 0 < depth)
-        && (factor_allowed(body, at + 1, 1 < depth) && factor_allowed(body, at + 2, 2 < depth))
+    (depth..INDEX_FACTORS).all(|i| byte_at(body, at + i) == 0)
 }
 
 // The skip in a body that has one, or another number.
+#[tactic(auto, unfolding(meaning::specs::Record::skip_where, meaning::specs::Record::skip_or))]
 fn skip_or(body: &[u8], skips: bool, other: u16) -> u16
     ensures { result ≡ skip_or (skip_where skips (unsigned16 body.now 24)) other }
 {
     if skips {
-        return unsigned16_at(body, SKIP);
+        unsigned16_at(body, SKIP)
+    } else {
+        other
     }
-    other
 }
 
 impl Loop {
@@ -109,21 +104,18 @@ impl Loop {
         }
     }
 
-    // The fields of a body, which has a skip or has none.
+    // The fields of a body, which has a skip or has none. Stays a flag, since the meaning's kind of a loop is one (`loop_kind has_skip`).
     pub fn decode(body: &[u8], skips: bool) -> Loop
         ensures fields { M.loop_record (loop_of skips result) ≡ decode_record (loop_kind skips) body.now }
         ensures blank { skips ≡ false → result.skip ≡ 0 }
     {
-        let lower = form_at(body, LOWER);
-        let upper = form_at(body, UPPER);
-        let skip = skip_or(body, skips, 0);
         Loop {
             start: unsigned16_at(body, 0),
             step: unsigned16_at(body, 2),
             stride: signed16_at(body, STRIDE),
-            lower: lower,
-            upper: upper,
-            skip: skip,
+            lower: form_at(body, LOWER),
+            upper: form_at(body, UPPER),
+            skip: skip_or(body, skips, 0),
         }
     }
 
@@ -131,10 +123,7 @@ impl Loop {
     pub fn stride_size(stride: i16) -> u16
         ensures { result ≡ nat_abs stride }
     {
-        if stride < 0 {
-            return (-(stride as i32)) as u16;
-        }
-        stride as u16
+        stride.unsigned_abs()
     }
 
     // Whether a loop with this stride counts down.

@@ -22,6 +22,7 @@ impl Work {
         Work { least: 0, most: 0 }
     }
 
+    #[tactic(auto, unfolding(meaning::specs::Record::decode_record))]
     pub fn decode(body: &[u8]) -> Work
         ensures { work_of result ≡ decode_record work_kind body.now }
     {
@@ -32,6 +33,7 @@ impl Work {
     }
 
     // 3: whether the fields in a body are in their ranges.
+    #[tactic(auto, unfolding(meaning::specs::Record::fields_in_range, meaning::specs::Record::decode_record))]
     pub fn in_range(body: &[u8]) -> bool
         ensures { (os : List Open) → result ≡ fields_in_range os (decode_record work_kind body.now) }
     {

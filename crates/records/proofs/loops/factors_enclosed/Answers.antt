@@ -1,25 +1,17 @@
--- The factors from `depth` on are 0 exactly where each of the three is allowed; the tests stop at the first that is not.
-use Rattle.records.proofs.Ranges.{first_stops, second-stops, third-decides}
+-- The factors from `depth` on are 0 exactly where their bytes are.
+use mathlib.Core.Path.{refl, ◌∙◌}
+use borrow.Author.Rules.{rules}
+use borrow.Author.Tests.{tests}
+use Prim.Native.Nat.{ℕ, ◌+◌}
+use lib.Dec.{eqb}
+use lib.ListN.{get_or}
+use Rattle.std.proofs.lemmas.Iterator.{YieldsList-from_range}
+use Rattle.std.proofs.lemmas.Iterator.Search.{all_from_yields_List}
+use Rattle.records.proofs.Ranges.{by-depth}
 use Rattle.records.proofs.loops.factors_enclosed.Goals as goal
 
-pub returns-then-factor_allowed-2 : goal.returns-then-factor_allowed-2
-returns-then-factor_allowed-2 c =
-    let second = c in
-    let first = second in
-    let a = first.args in
-    third-decides a.body.now a.at a.depth first.factor_allowed.ensures second.if-factor_allowed.true second.factor_allowed-then-factor_allowed.ensures
-    c.if-factor_allowed-2.true c.factor_allowed-then-factor_allowed-2.ensures
-
-pub returns-else-factor_allowed-2 : goal.returns-else-factor_allowed-2
-returns-else-factor_allowed-2 c =
-    let second = c in
-    let first = second in
-    let a = first.args in
-    second-stops a.body.now a.at a.depth first.factor_allowed.ensures second.if-factor_allowed.true second.factor_allowed-then-factor_allowed.ensures
-    c.if-factor_allowed-2.false
-
-pub returns-else-factor_allowed : goal.returns-else-factor_allowed
-returns-else-factor_allowed c =
-    let first = c in
-    let a = first.args in
-    first_stops a.body.now a.at a.depth first.factor_allowed.ensures c.if-factor_allowed.false
+pub returns : goal.returns
+returns c =
+    let a = c.args in
+    all_from_yields_List (λ (i : ℕ). eqb (get_or a.body.now (a.at + i) 0) 0) _ _ _ c.all.ensures.ran (YieldsList-from_range a.depth 3 _ refl refl) (λ x b q k. search (rules, tests))
+    ∙ by-depth a.body.now a.at a.depth

@@ -8,12 +8,12 @@ use Rattle.records.proofs.loops.form_at.Goals as goal
 pub returns : goal.returns
 unfolding form_at
 returns c =
-    let k0 = kept {w = w16} (record { sfits = c.signed16_at-constant.type_inv }) c.signed16_at-constant.ensures in
-    let k1 = kept {w = w8} (record { sfits = c.signed8_at-i1.type_inv }) c.signed8_at-i1.ensures in
-    let k2 = kept {w = w8} (record { sfits = c.signed8_at-i2.type_inv }) c.signed8_at-i2.ensures in
-    let k3 = kept {w = w8} (record { sfits = c.signed8_at-i3.type_inv }) c.signed8_at-i3.ensures in
-    let k4 = kept {w = w8} (record { sfits = c.signed8_at-p1.type_inv }) c.signed8_at-p1.ensures in
-    let k5 = kept {w = w8} (record { sfits = c.signed8_at-p2.type_inv }) c.signed8_at-p2.ensures in
-    let k6 = kept {w = w8} (record { sfits = c.signed8_at-p3.type_inv }) c.signed8_at-p3.ensures in
-    let k7 = kept {w = w8} (record { sfits = c.signed8_at-p4.type_inv }) c.signed8_at-p4.ensures in
+    let k0 = kept {w = w16} (record { sfits = c.signed16_at.type_inv }) c.signed16_at.ensures in
+    let k1 = kept {w = w8} (record { sfits = c.signed8_at.type_inv }) c.signed8_at.ensures in
+    let k2 = kept {w = w8} (record { sfits = c.signed8_at-2.type_inv }) c.signed8_at-2.ensures in
+    let k3 = kept {w = w8} (record { sfits = c.signed8_at-3.type_inv }) c.signed8_at-3.ensures in
+    let k4 = kept {w = w8} (record { sfits = c.signed8_at-4.type_inv }) c.signed8_at-4.ensures in
+    let k5 = kept {w = w8} (record { sfits = c.signed8_at-5.type_inv }) c.signed8_at-5.ensures in
+    let k6 = kept {w = w8} (record { sfits = c.signed8_at-6.type_inv }) c.signed8_at-6.ensures in
+    let k7 = kept {w = w8} (record { sfits = c.signed8_at-7.type_inv }) c.signed8_at-7.ensures in
     λ i. record { constant = k0 i; index = k1 i ∷ k2 i ∷ k3 i ∷ []; parameter = k4 i ∷ k5 i ∷ k6 i ∷ k7 i ∷ [] }

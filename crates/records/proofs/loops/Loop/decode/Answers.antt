@@ -30,9 +30,9 @@ returns c =
             start = c.unsigned16_at.ensures i;
             step = c.unsigned16_at-2.ensures i;
             stride = stride i;
-            lower = c.form_at-lower.ensures i;
-            upper = c.form_at-upper.ensures i;
-            skip = (ap (skip_where a.skips) c.skip_or-skip.ensures ∙ skip-kept a.skips (unsigned16 a.body.now 24)) i;
+            lower = c.form_at.ensures i;
+            upper = c.form_at-2.ensures i;
+            skip = (ap (skip_where a.skips) c.skip_or.ensures ∙ skip-kept a.skips (unsigned16 a.body.now 24)) i;
           });
-      blank = λ e. c.skip_or-skip.ensures ∙ no-skip a.skips (unsigned16 a.body.now 24) e;
+      blank = λ e. c.skip_or.ensures ∙ no-skip a.skips (unsigned16 a.body.now 24) e;
     }
