@@ -1,10 +1,10 @@
 -- The records of an accepted sheet, decoded one after another into an array.
 use mathlib.Core.Path.{◌≡◌, refl, sym, ap, ◌∙◌, subst}
-use mathlib.Core.List.{List, [], ◌∷◌, ◌++◌, map, map-append, append_assoc}
+use mathlib.Core.List.{List, [], ◌∷◌, ◌++◌, map, map-append, append_assoc, append-nil}
 use mathlib.Core.Option.{some}
 use Prim.Native.Nat.{ℕ, suc, ◌+◌, ◌-◌, ◌<◌, ◌≤◌}
 use native.Mathlib.Omega.{arith}
-use lib.ListN.{length, get_or, take, drop, set, replicate, length-map}
+use lib.ListN.{length, get_or, take, drop, set, replicate, length-map, length-append, length-replicate}
 use lib.Seq.{length-take-le, take_all, set_at}
 use Rattle.meaning.specs.Limits.{record_limit}
 use Rattle.meaning.specs.Record.{kind_number, body_length, kind, record_length, end_record, sheet_length}
@@ -14,6 +14,7 @@ use Rattle.meaning.proofs.Logic.{refused-is-not-ok, none-is-not-some, ok-injecti
 use Rattle.meaning.proofs.RecordBytes.{kind_of-kind_number}
 use Rattle.meaning.proofs.RecordReader.{record_head, StandsAt}
 use Rattle.std.specs.Prelude.{Some, None, Ok, Err}
+use Rattle.std.proofs.lemmas.List.{take-replicate, drop-replicate}
 use Rattle.records.specs.declared.Record.{Record}
 use Rattle.sheet.specs.declared.head.Head as D
 use Rattle.records.specs.View.{blank_record, record_in, decoded_as, decoded}
@@ -29,15 +30,9 @@ unfolding or_zero counted records_in
 count-is (ok rs) = refl
 count-is (refused number place) = refl
 
--- the first so many records, and blank ones up to the limit
-abbrev filled : List M.Record → ℕ → List Record
-filled rs k = map record_in (take k rs) ++ replicate (record_limit - k) (blank_record 0)
-
-all-filled : (r : Result (List M.Record)) → filled (records_in r) (length (records_in r)) ≡ with_blanks r
-unfolding with_blanks
-all-filled r =
-    let rs : List M.Record = records_in r in
-    ap (λ (l : List M.Record). map record_in l ++ replicate (record_limit - length rs) (blank_record 0)) (take_all (length rs) rs (omega arith))
+-- the first k of the records in room for n, and blank ones after them
+abbrev filled : List M.Record → ℕ → ℕ → List Record
+filled rs n k = map record_in (take k rs) ++ replicate (n - k) (blank_record 0)
 
 -- one element stored after those before it
 one-stored : {A B : Type 0} (f : A → B) (blank : B) (before : List A) (x : A) (k n : ℕ) → length before ≡ k →
@@ -48,35 +43,47 @@ one-stored {A} {B} f blank before x k n e =
 
 -- ---- the loop's state
 
+-- the first `number` of the records are stored
 pub record Decoding (sheet : List ℕ) (count : ℕ) (records : List Record) (at number : ℕ) : Type 0 where
   pub all : count ≡ length (records_of sheet)
-  pub few : count ≤ record_limit
   pub so_far : number ≤ count
   pub offset : at ≡ sheet_length (take number (records_of sheet))
-  pub stored : records ≡ filled (records_of sheet) number
+  pub stored : records ≡ filled (records_of sheet) count number
+
+pub counted-few : (sheet : List ℕ) {count : ℕ} → count ≡ or_zero (counted (read sheet)) → (count ≡ length (records_of sheet)) × (count ≤ record_limit)
+unfolding records_of
+counted-few sheet e = let n = e ∙ count-is (read sheet) in (n, omega (arith, few-records sheet, n))
 
 pub decoding-start : (sheet : List ℕ) {count : ℕ} {blank : Record} → count ≡ or_zero (counted (read sheet)) → blank ≡ blank_record 0
-    → Decoding sheet count (replicate record_limit blank) 0 0
-unfolding sheet_length records_of
-decoding-start sheet e b =
-    let n = e ∙ count-is (read sheet) in
+    → Decoding sheet count (take count (replicate record_limit blank)) 0 0
+unfolding sheet_length
+decoding-start sheet {count} {blank} e b =
+    let n = counted-few sheet e in
+    let room : count ≡ count - 0 = omega arith in
     record {
-      all = n;
-      few = omega (arith, few-records sheet);
+      all = n.0;
       so_far = omega arith;
       offset = refl;
-      stored = ap (replicate record_limit) b;
+      stored = take-replicate count record_limit blank n.1 ∙ (λ i. replicate (room i) (b i));
     }
 
 module _ {sheet : List ℕ} {count : ℕ} {records : List Record} {at number : ℕ} (g : Decoding sheet count records at number) where
   abbrev rs : List M.Record
   rs = records_of sheet
 
-  pub decoding-done : count ≤ number → records ≡ with_blanks (read sheet)
-  unfolding records_of
-  decoding-done h =
-      let n : number ≡ length rs = omega (arith, g.all, g.so_far) in
-      g.stored ∙ ap (filled rs) n ∙ all-filled (read sheet)
+  pub items-count : length records ≡ count
+  items-count =
+      ap (λ (l : List Record). length l) g.stored
+      ∙ length-append (map record_in (take number rs)) (replicate (count - number) (blank_record 0))
+      ∙ omega (arith, length-map (take number rs) record_in, length-take-le number rs (omega (arith, g.all)), length-replicate (count - number) (blank_record 0))
+
+  pub decoding-done : {blank : Record} → blank ≡ blank_record 0 → count ≤ number → records ++ drop count (replicate record_limit blank) ≡ with_blanks (read sheet)
+  unfolding records_of with_blanks
+  decoding-done {blank} e h =
+      let taken : take number rs ≡ rs = take_all number rs (omega (arith, g.all)) in
+      let none_left : count - number ≡ 0 = omega arith in
+      let stored : records ≡ map record_in rs = g.stored ∙ (λ i. map record_in (taken i) ++ replicate (none_left i) (blank_record 0)) ∙ append-nil (map record_in rs) in
+      (λ i. stored i ++ drop-replicate count record_limit blank i) ∙ (λ i. map record_in rs ++ replicate (record_limit - g.all i) (e i))
 
   module _ (more : number < count) where
     abbrev this : M.Record
@@ -116,14 +123,13 @@ module _ {sheet : List ℕ} {count : ℕ} {records : List Record} {at number : �
           Decoding sheet count (set records number r) (h.offset + h.length) (number + 1)
       decoding-next e =
           let longer : take (number + 1) rs ≡ take number rs ++ (this ∷ []) = one_more sheet number inside in
-          let left : record_limit - number ≡ suc (record_limit - (number + 1)) = omega (arith, g.few) in
+          let left : count - number ≡ suc (count - (number + 1)) = omega arith in
           record {
             all = g.all;
-            few = g.few;
             so_far = omega arith;
             offset = after-body ∙ ap (λ (n : ℕ). n + record_length this) g.offset ∙ sym (next-offset sheet number inside);
             stored = (λ i. set (g.stored i) number ((e ∙ record_is) i))
                 ∙ ap (λ (n : ℕ). set (map record_in (take number rs) ++ replicate n (blank_record 0)) number (record_in this)) left
-                ∙ one-stored record_in (blank_record 0) (take number rs) this number (record_limit - (number + 1)) (length-take-le number rs (omega (arith, inside)))
-                ∙ ap (λ (l : List M.Record). map record_in l ++ replicate (record_limit - (number + 1)) (blank_record 0)) (sym longer);
+                ∙ one-stored record_in (blank_record 0) (take number rs) this number (count - (number + 1)) (length-take-le number rs (omega (arith, inside)))
+                ∙ ap (λ (l : List M.Record). map record_in l ++ replicate (count - (number + 1)) (blank_record 0)) (sym longer);
           }

@@ -6,7 +6,7 @@ ghost use Rattle.sheet.specs.Answers.{head_result};
 use crate::refusal::{Refusal, RefusalKind};
 use records::{body_length, is_kind};
 
-// A record's kind, and where its body begins and how long it is.
+// A record's kind, and where its body begins and how long it is. Stays a number, since a record and `accept_record` take one.
 #[derive(Clone, Copy, PartialEq, Eq)]
 pub struct Head {
     pub kind: u8,

@@ -84,6 +84,7 @@ impl Nesting {
     }
 
     // One more open record: a loop's digit is 1, a choice's 0. Where another may open, the remainder loses no digit.
+    // Stays a number, since the digit is added to both numbers as it is.
     fn extended(self, digit: u64) -> Nesting
         requires { digit ≤ 1 }
         ensures { result ≡ extended_nesting self digit }
@@ -116,6 +117,7 @@ impl Nesting {
 
 // Refusals 3 and 5, in this order, of a record that would stand at an offset where `here` is open.
 // `records`: as the meaning accepts it, where the three numbers are those of a list of open records.
+// Stays a number in `kind`, since its clause `numbers` and that of `Nesting::after` speak of any number.
 pub fn accept_record(
     at: usize,
     here: Nesting,

@@ -14,6 +14,7 @@ use crate::refusal::{Refusal, RefusalKind};
 use records::{MAX_RECORDS, Record, Records};
 
 // The records of a sheet, blank ones after them, and how many there are or the refusal.
+// Stays an array beside the answer, since on a refusal too all records are promised, blank ones (`read_sheet`'s clause `records`).
 #[derive(Clone, Copy)]
 pub struct RecordsRead {
     pub records: Records,
@@ -70,13 +71,13 @@ fn decode_all(sheet: &[u8], count: usize) -> Records
 {
     let mut records: Records = [Record::blank(0); MAX_RECORDS];
     let mut at = 0;
-    for number in 0..count {
+    for record in &mut records[..count] {
         let Ok(Some(head)) = head_at(sheet, at) else {
             // the sheet has `count` records
             unreachable!()
         };
         let to = head.offset + head.length;
-        records[number] = Record::decode(head.kind, &sheet[head.offset..to]);
+        *record = Record::decode(head.kind, &sheet[head.offset..to]);
         at = to;
     }
     records
