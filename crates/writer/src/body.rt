@@ -45,8 +45,8 @@ fn put_work(buffer: &mut [u8], at: usize, fields: Work) -> usize
     put_unsigned16(buffer, at, fields.most)
 }
 
-// The body of a loop without a skip.
-fn put_plain_loop(buffer: &mut [u8], at: usize, fields: Loop) -> usize
+// The body of a loop without a skip, after which a loop's skip stands.
+fn put_loop(buffer: &mut [u8], at: usize, fields: Loop) -> usize
     requires { at + body_limit ≤ length buffer.old }
     ensures { Appended buffer.old at (body_bytes (loop_record (loop_of false fields))) buffer.new result }
 {
@@ -57,18 +57,6 @@ fn put_plain_loop(buffer: &mut [u8], at: usize, fields: Loop) -> usize
     put(buffer, at, &form_bytes(fields.upper))
 }
 
-// A skip stands after what a loop without one has.
-fn put_loop(buffer: &mut [u8], at: usize, fields: Loop, skips: bool) -> usize
-    requires { at + body_limit ≤ length buffer.old }
-    ensures { Appended buffer.old at (body_bytes (loop_record (loop_of skips fields))) buffer.new result }
-{
-    let at = put_plain_loop(buffer, at, fields);
-    if skips {
-        return put_unsigned16(buffer, at, fields.skip);
-    }
-    at
-}
-
 // The body that the fields of a kind make.
 #[tactic(auto, unfolding(meaning::specs::Writer::record_of, meaning::specs::Writer::loop_in, meaning::specs::Record::body_bytes), using(encoding::proofs::Appending::nothing))]
 pub(crate) fn put_body(buffer: &mut [u8], at: usize, kind: Kind, item: Record) -> usize
@@ -77,8 +65,11 @@ pub(crate) fn put_body(buffer: &mut [u8], at: usize, kind: Kind, item: Record) -
 {
     match kind {
         Kind::Work => put_work(buffer, at, item.work),
-        Kind::Loop => put_loop(buffer, at, item.looping, false),
-        Kind::SkipLoop => put_loop(buffer, at, item.looping, true),
+        Kind::Loop => put_loop(buffer, at, item.looping),
+        Kind::SkipLoop => {
+            let at = put_loop(buffer, at, item.looping);
+            put_unsigned16(buffer, at, item.looping.skip)
+        }
         Kind::End | Kind::Choice | Kind::NextArm => at,
     }
 }

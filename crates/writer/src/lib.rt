@@ -103,6 +103,7 @@ fn lay_out(items: &[Record], sheet: &mut [u8]) -> Result<usize, Refusal>
 
 // Writes the sheet of the first `count` records. The buffer changes only where no refusal falls: the sheet is laid out apart from it first. What
 // could be written before there were longer sheets is written as before.
+// Stays an array with a count, since docs/FORMAT.md has the writer take 128 records, a count and a buffer.
 pub fn write_sheet(records: Records, count: usize, buffer: &mut [u8]) -> Result<usize, Refusal>
     ensures answer { refusable result ≡ (write (map raw_record_of records) count buffer.old).result }
     ensures bytes { buffer.new ≡ (write (map raw_record_of records) count buffer.old).buffer }
