@@ -2,12 +2,11 @@
 use mathlib.Core.Path.{◌≡◌, sym, ap, ◌∙◌}
 use mathlib.Core.List.{List}
 use Prim.Native.Nat.{ℕ}
-use native.Mathlib.Omega.{arith}
 use lib.ListN.{length}
 use Rattle.meaning.specs.Record.{Open}
 use Rattle.meaning.specs.Reader.{refused}
 use Rattle.meaning.specs.Writer.{check_record}
-use Rattle.encoding.proofs.Appending.{keeps-length, between}
+use Rattle.encoding.proofs.Appending.{between}
 use Rattle.records.specs.View.{meant, meant_kind, raw_record_of}
 use Rattle.sheet.specs.Answers.{accepted_of}
 use Rattle.writer.proofs.Fits.{record-fits}
@@ -34,15 +33,6 @@ returns-then-not-foreign_blank c =
       answer = λ os e. refusal os;
       laid = λ os x e q. not-laid a.at os a.item (refusal os) q;
     }
-
-pub slice_bounds-accept_record-count : goal.slice_bounds-accept_record-count
-slice_bounds-accept_record-count c = omega (arith, c.put_body-to.ensures.ends)
-
-pub slice_bounds-accept_record-start : goal.slice_bounds-accept_record-start
-slice_bounds-accept_record-start c = omega (arith, c.put_body-to.ensures.ends)
-
-pub slice_bounds-accept_record-end : goal.slice_bounds-accept_record-end
-slice_bounds-accept_record-end c = let body = c.put_body-to.ensures in omega (arith, body.ends, body.fits, keeps-length body)
 
 pub returns : goal.returns
 returns c =

@@ -1,5 +1,5 @@
 -- Refusal 4; the refusal of the records; refusal 9; or the bytes that were laid out, which the reader reads as the records given.
-use mathlib.Core.Path.{refl, sym, ◌∙◌}
+use mathlib.Core.Path.{sym, ◌∙◌}
 use lib.Seq.{length-take-le}
 use native.Mathlib.Omega.{arith}
 use Rattle.sheet.proofs.Refused.{passed-on}
@@ -13,9 +13,6 @@ returns-then-count-gt-MAX_RECORDS c =
     let a = c.args in
     let p = too_many a.records a.count a.buffer.now c.if-count-gt-MAX_RECORDS.true in
     record { answer = p.0; bytes = p.1.0; undone = p.1.1.0; before = p.1.1.1 }
-
-pub lay_out-requires : goal.lay_out-requires
-lay_out-requires c = let few = length-take-le c.args.count c.args.records (search rules) in (omega (arith, few), refl)
 
 pub returns-in_err-length : goal.returns-in_err-length
 returns-in_err-length c =

@@ -10,9 +10,6 @@ returns-then-self-ge-MAX_OPEN c =
     let a = c.args in
     extended-same a.self a.digit (⊎_elim (λ w. inl (omega arith)) (λ w. inr (omega (arith, leb-true))) c.then-self-ge-MAX_OPEN.either)
 
-pub overflow_add-result-2 : goal.overflow_add-result-2
-overflow_add-result-2 c = omega (arith, leb-false, c.requires)
-
 pub returns : goal.returns
 returns c =
     let a = c.args in
