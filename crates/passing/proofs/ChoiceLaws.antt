@@ -1,79 +1,80 @@
 -- A choice's records, passed step by step, and which records are a loop's.
-use Rattle.std.proofs.Common.{◌≡◌, ℕ, ◌+◌, ◌<◌, ◌≤◌, Bool, true, false, not, ◌&&◌, eqb, ltb, List, sym, ap, ◌∙◌, arith, le-ltb, lt-ltb, eq-eqb, ne_eqb}
+use Rattle.std.proofs.Common.{◌≡◌, ℕ, ◌+◌, ◌<◌, ◌≤◌, Bool, true, false, not, ◌&&◌, eqb, ltb, List, sym, refl, ap, ◌∙◌, eq-eqb, ne_eqb, le-ltb, lt-ltb}
+use denote.Enum.Bare.{sameb}
 use Rattle.meaning.specs.Limits.{depth_limit}
-use Rattle.layout.specs.Rows.{role_number, loop_role, end_role, choice_role}
+use Rattle.layout.specs.contracts.rows.Role.{the_type}
+use Rattle.layout.specs.declared.rows.Role.{Role}
+use Rattle.layout.specs.Rows.{role_named, role_number, loop_role, end_role, choice_role}
 use Rattle.layout.specs.Rows.{role_at, enclosing_at, opener_at, frame_at, depth_at, loop_at}
 use Rattle.layout.specs.Loops.{some_ranked, ranked_at}
 use Rattle.layout.proofs.Reading.{ranked-by}
-use Rattle.state.specs.Open.{OpenParts, with_frames, with_arms, counter_at}
+use Rattle.layout.proofs.Roles.{role-true, role-false, role-test}
+use Rattle.state.specs.declared.State.{State}
+use Rattle.state.specs.declared.bounds.Bounds.{Bounds}
+use Rattle.state.specs.declared.open.Open.{Open}
+use Rattle.state.specs.declared.sums.Sums.{Sums}
+use Rattle.state.specs.Open.{with_frames, counter_at}
 use Rattle.state.specs.Sums.{from_zero}
-use Rattle.state.specs.Frames.{frame_opened, frame_left, passed_around, arm_passed}
-use Rattle.state.specs.Arms.{arm_kept}
-use Rattle.state.specs.States.{StateParts, state_with}
+use Rattle.state.specs.Frames.{arm_passed, frame_left, passed_around}
+use Rattle.state.specs.States.{state_with}
 use Rattle.trips.specs.Trips.{limit_within}
 use Rattle.passing.specs.Pass.{open_choice, leave_arm, keeps_arms_at, open_arm_kept, pass_choice_where, pass_choice, is_of_loop}
 
-module _ (rows : List ℕ) (at : ℕ) {role : ℕ} (named : role ≡ role_at rows at) where
-  -- the role's tests
-  is : {n : ℕ} → role ≡ n → eqb (role_at rows at) n ≡ true
-  is {n} e = eq-eqb (role_at rows at) n (sym named ∙ e)
+module _ (rows : List ℕ) (at : ℕ) {role : Role} (named : role ≡ role_named (role_at rows at)) where
+  module _ (limits : List ℕ) (s : State) (here : s.at ≡ at) where
+    pub choice-opens : role ≡ choice_role → pass_choice rows limits s ≡ open_choice rows s
+    unfolding pass_choice pass_choice_where
+    choice-opens e =
+        ap (λ (n : ℕ). pass_choice_where rows limits (eqb (role_at rows n) (role_number choice_role)) s) here
+        ∙ ap (λ (b : Bool). pass_choice_where rows limits b s) (sym (role-true choice_role refl (role_at rows at) named e))
 
-  is-not : {n : ℕ} → (role ≡ n → ⊥) → eqb (role_at rows at) n ≡ false
-  is-not {n} h = ne_eqb (role_at rows at) n (λ e. h (named ∙ e))
+    pub arm-left :
+        (role ≡ choice_role → ⊥) → {last : Bool} → last ≡ sameb the_type role end_role → {choice frame : ℕ} → choice ≡ opener_at rows at
+        → frame ≡ frame_at rows choice → {kept : Open} → kept ≡ open_arm_kept rows limits choice s.sums.passed s.opened
+        → pass_choice rows limits s ≡ leave_arm rows last frame (state_with s.at s.sums kept)
+    unfolding pass_choice pass_choice_where
+    arm-left other {last} l {choice} {frame} c f {kept} k =
+        ap (λ (n : ℕ). pass_choice_where rows limits (eqb (role_at rows n) (role_number choice_role)) s) here
+        ∙ ap (λ (b : Bool). pass_choice_where rows limits b s) (sym (role-false choice_role refl (role_at rows at) named other))
+        ∙ (let t = role-test end_role refl (role_at rows at) named l in cc)
 
-  module _ (limits sums : List ℕ) (parts : OpenParts) where
-    abbrev s : StateParts
-    s = state_with at sums parts
-
-    pub choice-opens :
-        {frame : ℕ} {inside : List ℕ} {after : OpenParts} → role ≡ role_number choice_role → frame ≡ frame_at rows at
-        → after ≡ with_frames parts (frame_opened parts.frames frame sums) → inside ≡ from_zero sums
-        → pass_choice rows limits s ≡ state_with (at + 1) inside after
-    unfolding pass_choice pass_choice_where open_choice
-    choice-opens e f a z = ap (λ (b : Bool). pass_choice_where rows limits b s) (is e) ∙ cc
-
-    module _ (other : role ≡ role_number choice_role → ⊥) {choice frame : ℕ} (p : choice ≡ opener_at rows at) (f : frame ≡ frame_at rows choice)
-        {kept : OpenParts} (k : kept ≡ open_arm_kept rows limits choice sums parts)
-        {passed : OpenParts} (a : passed ≡ with_frames kept (arm_passed kept.frames frame sums)) where
-      leaves : (b : Bool) → eqb (role_at rows at) (role_number end_role) ≡ b → pass_choice rows limits s ≡ leave_arm rows b frame (state_with at sums kept)
-      unfolding pass_choice pass_choice_where
-      leaves b e = ap (λ (b : Bool). pass_choice_where rows limits b s) (is-not other) ∙ cc
-
-      pub arm-opens :
-          {inside : List ℕ} → (role ≡ role_number end_role → ⊥) → inside ≡ from_zero sums → pass_choice rows limits s ≡ state_with (at + 1) inside passed
-      unfolding leave_arm
-      arm-opens h z = leaves false (is-not h) ∙ cc
-
-      pub choice-ends :
-          {outside : List ℕ} {after : OpenParts} → role ≡ role_number end_role → outside ≡ passed_around passed.frames frame sums
-          → after ≡ with_frames passed (frame_left passed.frames frame) → pass_choice rows limits s ≡ state_with (at + 1) outside after
-      unfolding leave_arm
-      choice-ends e z l = leaves true (is e) ∙ cc
-
-  pub end-of-loop : {opener inner : ℕ} → role ≡ role_number end_role → opener ≡ opener_at rows at → inner ≡ role_at rows opener
-      → eqb inner (role_number loop_role) ≡ is_of_loop rows at
+  pub end-of-loop : role ≡ end_role → {opener : ℕ} {inner : Role} {r : Bool} → opener ≡ opener_at rows at → inner ≡ role_named (role_at rows opener)
+      → r ≡ sameb the_type inner loop_role → r ≡ is_of_loop rows at
   unfolding is_of_loop
-  end-of-loop e p q = let t = is e in cc
+  end-of-loop e {opener} p q t =
+      let last = sym (role-true end_role refl (role_at rows at) named e) in
+      let inside = role-test loop_role refl (role_at rows opener) q t in cc
 
-  pub loop-itself : (role ≡ role_number end_role → ⊥) → eqb role (role_number loop_role) ≡ is_of_loop rows at
+  pub loop-itself : (role ≡ end_role → ⊥) → {r : Bool} → r ≡ sameb the_type role loop_role → r ≡ is_of_loop rows at
   unfolding is_of_loop
-  loop-itself h = let t = is-not h in cc
+  loop-itself h t =
+      let other = sym (role-false end_role refl (role_at rows at) named h) in
+      let loops = role-test loop_role refl (role_at rows at) named t in cc
+
+-- the arm that is left joins those passed
+module _ (rows : List ℕ) (s : State) (frame : ℕ) {passed : Open} (joins : passed ≡ with_frames s.opened (arm_passed s.opened.frames frame s.sums.passed)) {last : Bool} where
+  pub next-arm-opens : last ≡ false → {inside : Sums} → inside ≡ from_zero s.sums → leave_arm rows last frame s ≡ state_with (s.at + 1) inside passed
+  unfolding leave_arm
+  next-arm-opens e i = cc
+
+  pub choice-ends :
+      last ≡ true → {outside : Sums} {after : Open} → outside ≡ passed_around passed.frames frame s.sums
+      → after ≡ with_frames passed (frame_left passed.frames frame) → leave_arm rows last frame s ≡ state_with (s.at + 1) outside after
+  unfolding leave_arm
+  choice-ends e o a = cc
 
 -- ---- whether the arms of a choice are kept, test by test
 
-module _ (rows limits : List ℕ) (choice : ℕ) (parts : OpenParts) where
+module _ (rows limits : List ℕ) (choice : ℕ) (parts : Open) where
   abbrev keeps : Bool
   keeps = keeps_arms_at rows limits choice parts
 
-  module _ {around number : ℕ} (o : around ≡ opener_at rows choice) (j : number ≡ loop_at rows around)
+  module _ {around number depth : ℕ} (o : around ≡ opener_at rows choice) (j : number ≡ loop_at rows around) (d : depth ≡ depth_at rows around)
       {ranked : Bool} (r : ranked ≡ ranked_at limits number) where
-    abbrev in-trip : ℕ → Bool
-    in-trip depth = ltb (counter_at parts depth) (limit_within limits number depth)
-
     tests :
         ranked
         && (not (eqb (enclosing_at rows choice) 0)
-        && (eqb (role_at rows around) (role_number loop_role) && (ltb (depth_at rows around) depth_limit && in-trip (depth_at rows around))))
+        && (eqb (role_at rows around) (role_number loop_role) && (ltb depth depth_limit && ltb (counter_at parts depth) (limit_within limits number depth))))
         ≡ keeps
     unfolding keeps_arms_at
     tests = cc
@@ -85,34 +86,30 @@ module _ (rows limits : List ℕ) (choice : ℕ) (parts : OpenParts) where
       pub not-inside : enclosing ≡ 0 → false ≡ keeps
       not-inside e = let t = tests in let i = eq-eqb (enclosing_at rows choice) 0 (sym n ∙ e) in cc
 
-      module _ (inside : enclosing ≡ 0 → ⊥) {role : ℕ} (named : role ≡ role_at rows around) where
+      module _ (inside : enclosing ≡ 0 → ⊥) {other : Bool} (test : other ≡ not (eqb (role_at rows around) (role_number loop_role))) where
         abbrev i : eqb (enclosing_at rows choice) 0 ≡ false
         i = ne_eqb (enclosing_at rows choice) 0 (λ e. inside (n ∙ e))
 
-        pub not-in-loop : (role ≡ role_number loop_role → ⊥) → false ≡ keeps
-        not-in-loop h = let t = tests in let l = ne_eqb (role_at rows around) (role_number loop_role) (λ e. h (named ∙ e)) in cc i
+        is-loop : (b : Bool) → other ≡ not b → other ≡ false → b ≡ true
+        is-loop true e f = refl
+        is-loop false e f = cc
 
-        module _ (in-loop : role ≡ role_number loop_role) {depth : ℕ} (d : depth ≡ depth_at rows around) where
-          abbrev l : eqb (role_at rows around) (role_number loop_role) ≡ true
-          l = eq-eqb (role_at rows around) (role_number loop_role) (sym named ∙ in-loop)
+        no-loop : (b : Bool) → other ≡ not b → other ≡ true → b ≡ false
+        no-loop true e f = cc
+        no-loop false e f = refl
 
+        pub not-in-loop : other ≡ true → false ≡ keeps
+        not-in-loop e = let t = tests in let l = no-loop _ test e in cc i
+
+        module _ (yes-loop : other ≡ false) where
           pub too-deep : depth_limit ≤ depth → false ≡ keeps
-          too-deep h = let t = tests in let m = le-ltb (depth_at rows around) depth_limit (omega arith) in cc (i, l)
+          too-deep h = let t = tests in let l = is-loop _ test yes-loop in let m = le-ltb depth depth_limit h in cc i
 
           pub trip-tested : {counter limit : ℕ} → depth < depth_limit → counter ≡ counter_at parts depth → limit ≡ limit_within limits number depth
               → ltb counter limit ≡ keeps
-          trip-tested h c w = let t = tests in let m = lt-ltb (depth_at rows around) depth_limit (omega arith) in cc (i, l)
+          trip-tested h c w = let t = tests in let l = is-loop _ test yes-loop in let m = lt-ltb depth depth_limit h in cc i
 
   -- where no loop is ranked, none of it need be asked
-  pub none_kept : (sums : List ℕ) {some : Bool} → some ≡ some_ranked limits → some ≡ false → parts ≡ open_arm_kept rows limits choice sums parts
+  pub none_kept : (arm : Bounds) {some : Bool} → some ≡ some_ranked limits → some ≡ false → parts ≡ open_arm_kept rows limits choice arm parts
   unfolding open_arm_kept keeps_arms_at
-  none_kept sums a e = let k = ranked-by limits (loop_at rows (opener_at rows choice)) a e in cc
-
-  module _ (sums : List ℕ) {kept : Bool} (k : kept ≡ keeps) where
-    pub arm-kept : {after : OpenParts} → kept ≡ true → after ≡ with_arms parts (arm_kept parts.arms sums) → after ≡ open_arm_kept rows limits choice sums parts
-    unfolding open_arm_kept
-    arm-kept e a = cc
-
-    pub arm-unkept : kept ≡ false → parts ≡ open_arm_kept rows limits choice sums parts
-    unfolding open_arm_kept
-    arm-unkept e = cc
+  none_kept arm a e = let k = ranked-by limits (loop_at rows (opener_at rows choice)) a e in cc

@@ -1,280 +1,241 @@
 // Passing a loop's record, or its end.
 ghost use Rattle.std.specs.Prelude.{◌≡◌, suc, ◌+◌, ◌-◌, ◌<◌, ◌≤◌, true, if◌then◌else◌, ◌≢◌};
 ghost use Rattle.meaning.specs.Limits.{record_limit, depth_limit, ceiling_limit};
-ghost use Rattle.state.specs.Open.{parts_in, arms_in, counter_at};
+ghost use Rattle.state.specs.Open.{counter_at};
 ghost use Rattle.state.specs.Sums.{visit_begins};
-ghost use Rattle.state.specs.States.{state_in};
+ghost use Rattle.state.specs.States.{state_with};
 ghost use Rattle.layout.specs.Rows.{opener_at, loop_at};
 ghost use Rattle.trips.specs.Trips.{limit_within};
 ghost use Rattle.passing.specs.Pass.{trip_joined, summed_trips, left_parts, left_sums, kept_joined, kept_dropped};
 ghost use Rattle.passing.specs.Pass.{goes_unsettled, arms_left, end_trip, end_trip_by, enter_loop, pass_loop};
 
-use layout::differences::Differences;
-use layout::limits::{Limits, ranked_at, some_ranked};
+use layout::PlanArrays;
+use layout::limits::{ranked_at, some_ranked};
 use layout::rows::{
-    LOOP, Rows, after_end_at, entry_cost_at, frame_at, loop_at, opener_at, role_at, step_at,
+    Role, Rows, after_end_at, entry_cost_at, frame_at, loop_at, opener_at, role_at, step_at,
 };
 use newton::{weighted_sum, weights_of};
+use ranking::KeptArms;
 use ranking::body::settled;
-use state::arms::{arm_numbers, drop_arms, kept_arms};
-use state::frames::{add_around, close_frame, leave_frame, open_frame, pass_trip};
-use state::kept::{first_trips, forget, keep, kept_sum};
-use state::open::{Open, counter_at, put_counter};
-use state::sums::{LEAST, MOST, Sums, VISITS, add, begin_visit, smaller};
+use state::State;
+use state::bounds::Bounds;
+use state::open::Open;
 use trips::{further, limit_unless, limit_within, trips_at, visited_by};
 
-// Where the stage stands after a record, how many loops are open there, and whether a visit begins.
+// How many loops are open after a record, and whether a visit begins there. Stays a flag beside the depth, since `pass_loop` says both in either case.
 #[derive(Clone, Copy)]
 pub struct Outcome {
-    pub at: usize,
     pub depth: usize,
     pub begun: bool,
 }
 
 // The open trip joins those visited before if the loop is walked, which has limit 0; otherwise it is kept.
-fn join_trip(limit: u64, around: usize, frame: usize, counter: u64, sums: &Sums, opened: &mut Open)
-    requires counter_value { counter ≡ counter_at (parts_in opened.old) around }
+fn join_trip(limit: u64, around: usize, frame: usize, counter: u64, trip: Bounds, opened: &mut Open)
+    requires counter_value { counter ≡ counter_at opened.old around }
     requires counter_bound { (limit ≢ 0) → suc (around + counter) < depth_limit }
-    ensures { parts_in opened.new ≡ trip_joined around frame sums.now (parts_in opened.old) limit }
+    ensures { opened.new ≡ trip_joined around frame trip opened.old limit }
 {
     if limit == 0 {
-        pass_trip(opened, frame, sums);
-        return;
+        opened.pass_trip(frame, trip);
+    } else {
+        opened.keep(around, counter as usize, trip);
     }
-    keep(opened, around, counter as usize, sums);
 }
 
 // The sum of so many trips, from the first ones: `held` kept ones and the open one.
-fn sum_trips(opened: &Open, around: usize, held: u64, trips: u64, sums: Sums) -> Sums
+fn sum_trips(opened: &Open, around: usize, held: u64, trips: u64, last: Bounds) -> Bounds
     requires { (around + held < depth_limit) × (trips ≤ ceiling_limit) }
-    ensures { result ≡ summed_trips around sums (parts_in opened.now) trips held }
+    ensures { result ≡ summed_trips around last opened.now trips held }
 {
     let weights = weights_of(trips, held + 1);
-    let least = weighted_sum(
-        weights,
-        first_trips(opened, around, LEAST, held, sums[LEAST]),
-    );
-    let most = weighted_sum(weights, first_trips(opened, around, MOST, held, sums[MOST]));
-    [least, most, sums[VISITS]]
+    let [first, second, third, fourth] = opened.first_trips(around, held, last);
+    Bounds {
+        least: weighted_sum(
+            weights,
+            [first.least, second.least, third.least, fourth.least],
+        ),
+        most: weighted_sum(weights, [first.most, second.most, third.most, fourth.most]),
+    }
 }
 
 // A loop is left: the sum of its trips goes to what is around it.
-fn leave_loop(
-    limit: u64,
-    around: usize,
-    frame: usize,
-    trips: u64,
-    sums: &mut Sums,
-    opened: &mut Open,
-)
+fn leave_loop(limit: u64, around: usize, frame: usize, trips: u64, state: &mut State)
     requires { (around < depth_limit) × ((limit + around ≤ depth_limit) × (trips ≤ ceiling_limit)) }
-    ensures sums_after { sums.new ≡ left_sums around frame sums.old (parts_in opened.old) limit trips }
-    ensures opened_after { parts_in opened.new ≡ left_parts around frame sums.old (parts_in opened.old) limit }
+    ensures { state.new
+        ≡ state_with state.old.at (left_sums around frame state.old.sums.passed state.old.opened limit trips state.old.sums) (left_parts around frame state.old.sums.passed state.old.opened limit) }
 {
-    let counter = counter_at(opened, around);
-    put_counter(opened, around, 0);
+    let counter = state.opened.counter_at(around);
+    state.opened.put_counter(around, 0);
+    let trip = state.sums.passed;
     if limit == 0 {
-        pass_trip(opened, frame, sums);
-        close_frame(opened, frame, sums);
+        state.opened.pass_trip(frame, trip);
+        state.opened.close_frame(frame, &mut state.sums);
         return;
     }
-    let held = smaller(counter, limit - 1);
-    let summed = sum_trips(opened, around, held, trips, *sums);
-    forget(opened, around, held as usize);
-    add_around(opened, frame, summed[LEAST], summed[MOST], sums);
-    leave_frame(opened, frame);
-}
-
-// How many loops are around the innermost of so many.
-fn loops_around(depth: usize) -> usize
-    ensures { result ≡ depth - 1 }
-{
-    if depth == 0 { 0 } else { depth - 1 }
+    let held = counter.min(limit - 1);
+    let summed = sum_trips(&state.opened, around, held, trips, trip);
+    state.opened.forget(around, held as usize);
+    state.opened.add_around(frame, summed, &mut state.sums);
+    state.opened.leave_frame(frame);
 }
 
 // Whether the choices of a ranked loop are unsettled after the trip that the counter counts, and some of its trips follow.
 fn goes_unsettled(rows: &Rows, opener: usize, trips: u64, counter: u64, opened: &Open) -> bool
-    ensures { result ≡ goes_unsettled rows.now true opener trips counter (arms_in opened.now) }
+    ensures { result ≡ goes_unsettled rows.now true opener trips counter opened.now.arms }
 {
     if !further(counter, trips) {
         return false;
     }
     let count = counter + 1;
-    let arms = kept_arms(opened) / (count as usize);
-    !settled(rows, opener, arm_numbers(opened), count, arms)
+    let kept = KeptArms {
+        arms: &opened.arms.bounds,
+        trips: count,
+        per_trip: opened.arms.kept() / (count as usize),
+    };
+    !settled(rows, opener, kept)
 }
 
 // The kept trips of a loop join the open one, and their arms are dropped.
-fn join_kept(around: usize, held: u64, sums: Sums, opened: &mut Open) -> Sums
+fn join_kept(around: usize, held: u64, state: &mut State)
     requires { around + held < depth_limit }
-    ensures value { result ≡ kept_joined around held (parts_in opened.old) sums }
-    ensures opened_after { parts_in opened.new ≡ kept_dropped around held (parts_in opened.old) }
+    ensures { state.new
+        ≡ state_with state.old.at (kept_joined around held state.old.opened state.old.sums) (kept_dropped around held state.old.opened) }
 {
-    let least = kept_sum(opened, around, LEAST, held);
-    let most = kept_sum(opened, around, MOST, held);
-    let mut joined = sums;
-    add(&mut joined, least, most);
-    forget(opened, around, held as usize);
-    drop_arms(opened);
-    joined
+    let kept = state.opened.kept_sum(around, held);
+    state.sums.add(kept);
+    state.opened.forget(around, held as usize);
+    state.opened.arms.clear();
 }
 
 // Whether the loop of which a trip ends is ranked and walked nevertheless: after its first trips, or in the last of them where its choices are found
 // unsettled, when it turns to walking: the kept trips join the open one, and their arms are dropped. It is asked before all else, since of most sheets
 // no loop is ranked: what follows is then quicker.
-fn turn_to_walking(
-    rows: &Rows,
-    differences: &Differences,
-    limits: &Limits,
-    depth: usize,
-    at: usize,
-    sums: &mut Sums,
-    opened: &mut Open,
-) -> bool
+fn turn_to_walking(arrays: &PlanArrays, depth: usize, state: &mut State) -> bool
     requires { depth ≤ depth_limit }
-    ensures { end_trip rows.now differences.now limits.now depth
-        (state_in at sums.old opened.old)
-        ≡ end_trip_by rows.now differences.now limits.now depth
-        (if result then 0 else limit_within limits.now (loop_at rows.now (opener_at rows.now at)) (depth - 1))
-        (state_in at sums.new opened.new) }
+    ensures stands { state.new.at ≡ state.old.at }
+    ensures ends { end_trip arrays.now.rows arrays.now.differences arrays.now.limits depth state.old
+        ≡ end_trip_by arrays.now.rows arrays.now.differences arrays.now.limits depth
+        (if result then 0 else limit_within arrays.now.limits (loop_at arrays.now.rows (opener_at arrays.now.rows state.new.at)) (depth - 1)) state.new }
 {
+    let limits = &arrays.limits;
     if !some_ranked(limits) {
         return false;
     }
-    let opener = opener_at(rows, at);
-    let number = loop_at(rows, opener);
+    let opener = opener_at(&arrays.rows, state.at);
+    let number = loop_at(&arrays.rows, opener);
     if !ranked_at(limits, number) {
         return false;
     }
-    let around = loops_around(depth);
-    let counter = counter_at(opened, around);
+    let around = depth.saturating_sub(1);
+    let counter = state.opened.counter_at(around);
     let limit = limit_within(limits, number, around);
     if limit <= counter {
         return true;
     }
-    let trips = trips_at(differences, opened, number);
+    let trips = trips_at(&arrays.differences, &state.opened, number);
     if further(counter, visited_by(limit, trips)) {
         return false;
     }
-    if !goes_unsettled(rows, opener, trips, counter, opened) {
+    if !goes_unsettled(&arrays.rows, opener, trips, counter, &state.opened) {
         return false;
     }
-    *sums = join_kept(around, counter, *sums, opened);
+    join_kept(around, counter, state);
     true
 }
 
 // The arms of a ranked loop that is left are dropped.
+#[tactic(auto, unfolding(crate::specs::Pass::arms_left))]
 fn leave_arms(ranked: bool, opened: &mut Open)
-    ensures { parts_in opened.new ≡ arms_left ranked (parts_in opened.old) }
+    ensures { opened.new ≡ arms_left ranked opened.old }
 {
     if ranked {
-        drop_arms(opened);
+        opened.arms.clear();
     }
 }
 
 // A further trip of a loop opens.
-fn open_trip(opener: usize, depth: usize, sums: &mut Sums) -> Outcome
+fn open_trip(opener: usize, depth: usize, state: &mut State) -> Outcome
     requires { opener < record_limit }
-    ensures { (sums.new ≡ visit_begins sums.old) × (result ≡ record { at = opener + 1; depth = depth; begun = true }) }
+    ensures after { state.new ≡ state_with (opener + 1) (visit_begins state.old.sums) state.old.opened }
+    ensures value { result ≡ record { depth = depth; begun = true } }
 {
-    begin_visit(sums);
-    Outcome {
-        at: opener + 1,
-        depth: depth,
-        begun: true,
-    }
+    state.sums.begin_visit();
+    state.at = opener + 1;
+    Outcome { depth, begun: true }
 }
 
 // The end of a trip of the innermost open loop: a further trip opens, or the loop is left.
-fn end_trip(
-    rows: &Rows,
-    differences: &Differences,
-    limits: &Limits,
-    depth: usize,
-    at: usize,
-    sums: &mut Sums,
-    opened: &mut Open,
-) -> Outcome
-    requires { (depth ≤ depth_limit) × (at < record_limit) }
-    ensures { end_trip rows.now differences.now limits.now depth
-        (state_in at sums.old opened.old)
-        ≡ record { begun = result.begun; depth = result.depth; after = state_in result.at sums.new opened.new } }
+fn end_trip(arrays: &PlanArrays, depth: usize, state: &mut State) -> Outcome
+    requires { (depth ≤ depth_limit) × (state.old.at < record_limit) }
+    ensures { end_trip arrays.now.rows arrays.now.differences arrays.now.limits depth state.old
+        ≡ record { begun = result.begun; depth = result.depth; after = state.new } }
 {
-    let walked = turn_to_walking(rows, differences, limits, depth, at, sums, opened);
-    let opener = opener_at(rows, at);
+    let walked = turn_to_walking(arrays, depth, state);
+    let rows = &arrays.rows;
+    let opener = opener_at(rows, state.at);
     let frame = frame_at(rows, opener);
     let number = loop_at(rows, opener);
-    let around = loops_around(depth);
-    let trips = trips_at(differences, opened, number);
-    let step = step_at(rows, opener);
-    add(sums, step, step);
-    let counter = counter_at(opened, around);
-    let limit = limit_unless(walked, limits, number, around);
+    let around = depth.saturating_sub(1);
+    let trips = trips_at(&arrays.differences, &state.opened, number);
+    let step = Bounds::exactly(step_at(rows, opener));
+    state.sums.add(step);
+    let counter = state.opened.counter_at(around);
+    let limit = limit_unless(walked, &arrays.limits, number, around);
     if further(counter, visited_by(limit, trips)) {
-        join_trip(limit, around, frame, counter, sums, opened);
-        put_counter(opened, around, counter + 1);
-        return open_trip(opener, depth, sums);
+        join_trip(
+            limit,
+            around,
+            frame,
+            counter,
+            state.sums.passed,
+            &mut state.opened,
+        );
+        state.opened.put_counter(around, counter + 1);
+        return open_trip(opener, depth, state);
     }
-    leave_loop(limit, around, frame, trips, sums, opened);
-    let ranked = ranked_at(limits, number);
-    leave_arms(ranked, opened);
+    leave_loop(limit, around, frame, trips, state);
+    let ranked = ranked_at(&arrays.limits, number);
+    leave_arms(ranked, &mut state.opened);
+    state.at += 1;
     Outcome {
-        at: at + 1,
         depth: around,
         begun: false,
     }
 }
 
 // A loop's record: with no trip the stage goes on after its end, otherwise the first trip opens.
-fn enter_loop(
-    rows: &Rows,
-    differences: &Differences,
-    depth: usize,
-    at: usize,
-    sums: &mut Sums,
-    opened: &mut Open,
-) -> Outcome
-    requires { (depth ≤ depth_limit) × (at < record_limit) }
-    ensures { enter_loop rows.now differences.now depth (state_in at sums.old opened.old)
-        ≡ record { begun = result.begun; depth = result.depth; after = state_in result.at sums.new opened.new } }
+fn enter_loop(arrays: &PlanArrays, depth: usize, state: &mut State) -> Outcome
+    requires { (depth ≤ depth_limit) × (state.old.at < record_limit) }
+    ensures { enter_loop arrays.now.rows arrays.now.differences depth state.old
+        ≡ record { begun = result.begun; depth = result.depth; after = state.new } }
 {
-    let trips = trips_at(differences, opened, loop_at(rows, at));
-    let cost = entry_cost_at(rows, at, trips);
-    add(sums, cost, cost);
+    let rows = &arrays.rows;
+    let at = state.at;
+    let trips = trips_at(&arrays.differences, &state.opened, loop_at(rows, at));
+    state
+        .sums
+        .add(Bounds::exactly(entry_cost_at(rows, at, trips)));
     if trips == 0 {
+        state.at = after_end_at(rows, at);
         return Outcome {
-            at: after_end_at(rows, at),
-            depth: depth,
+            depth,
             begun: false,
         };
     }
-    open_frame(opened, frame_at(rows, at), sums);
-    begin_visit(sums);
-    Outcome {
-        at: at + 1,
-        depth: depth + 1,
-        begun: true,
-    }
+    state
+        .opened
+        .open_frame(frame_at(rows, at), state.sums.passed);
+    open_trip(at, depth + 1, state)
 }
 
 // A loop's record, or its end, where so many loops are open.
-pub fn pass_loop(
-    rows: &Rows,
-    differences: &Differences,
-    limits: &Limits,
-    depth: usize,
-    at: usize,
-    sums: &mut Sums,
-    opened: &mut Open,
-) -> Outcome
-    requires { (depth ≤ depth_limit) × (at < record_limit) }
-    ensures { pass_loop rows.now differences.now limits.now depth
-        (state_in at sums.old opened.old)
-        ≡ record { begun = result.begun; depth = result.depth; after = state_in result.at sums.new opened.new } }
+pub fn pass_loop(arrays: &PlanArrays, depth: usize, state: &mut State) -> Outcome
+    requires { (depth ≤ depth_limit) × (state.old.at < record_limit) }
+    ensures { pass_loop arrays.now.rows arrays.now.differences arrays.now.limits depth state.old
+        ≡ record { begun = result.begun; depth = result.depth; after = state.new } }
 {
-    let role = role_at(rows, at);
-    if role == LOOP {
-        return enter_loop(rows, differences, depth, at, sums, opened);
+    match role_at(&arrays.rows, state.at) {
+        Role::Loop => enter_loop(arrays, depth, state),
+        _ => end_trip(arrays, depth, state),
     }
-    end_trip(rows, differences, limits, depth, at, sums, opened)
 }

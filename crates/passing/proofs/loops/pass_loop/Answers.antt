@@ -1,17 +1,12 @@
 -- By the role: a loop is entered; any other record counts as the end of a trip.
-use Rattle.layout.specs.Rows.{role_number}
-use Rattle.state.specs.States.{state_in}
+use Rattle.std.proofs.Common.{◌∙◌}
 use Rattle.passing.proofs.LoopLaws.{at-loop, at-end}
 use Rattle.passing.proofs.loops.pass_loop.Goals as goal
 
-pub returns-then-role-eq-LOOP : goal.returns-then-role-eq-LOOP
-unfolding role_number
-returns-then-role-eq-LOOP c = let a = c.args in
-    at-loop a.rows.now a.differences.now a.limits.now a.depth (state_in a.at a.sums.now a.opened.now)
-    c.role_at-role.ensures c.if-role-eq-LOOP.true c.enter_loop.ensures
+pub returns-in-Loop : goal.returns-in-Loop
+returns-in-Loop c = let a = c.args in let m = a.arrays.now in
+    at-loop m.rows m.differences m.limits a.depth a.state.now c.role_at.ensures c.in-Loop.is ∙ c.enter_loop.ensures
 
-pub returns : goal.returns
-unfolding role_number
-returns c = let a = c.args in
-    at-end a.rows.now a.differences.now a.limits.now a.depth (state_in a.at a.sums.now a.opened.now)
-    c.role_at-role.ensures c.if-role-eq-LOOP.false c.end_trip.ensures
+pub returns-in_default : goal.returns-in_default
+returns-in_default c = let a = c.args in let m = a.arrays.now in
+    at-end m.rows m.differences m.limits a.depth a.state.now c.role_at.ensures c.in_default.not-Loop ∙ c.end_trip.ensures

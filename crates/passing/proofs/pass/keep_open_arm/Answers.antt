@@ -1,17 +1,18 @@
 -- Where no loop is ranked all stays; otherwise one more arm is kept where the test says so.
-use Rattle.state.specs.Open.{parts_in}
-use Rattle.passing.proofs.ChoiceLaws.{none_kept, arm-kept, arm-unkept}
+use Rattle.std.proofs.Common.{sym, refl}
+use Rattle.passing.specs.Pass.{open_arm_kept}
+use Rattle.passing.proofs.ChoiceLaws.{none_kept}
 use Rattle.passing.proofs.pass.keep_open_arm.Goals as goal
-
-pub returns-then-not-some_ranked : goal.returns-then-not-some_ranked
-returns-then-not-some_ranked c = let a = c.args in
-    none_kept a.rows.now a.limits.now a.choice (parts_in a.opened.now) a.sums.now c.some_ranked.ensures c.if-not-some_ranked.true
+use Rattle.passing.proofs.pass.keep_open_arm.Goals.{else-some_ranked-via-then-some_ranked+else-keeps_arms, else-some_ranked-via-else-some_ranked}
 
 pub returns-then-keeps_arms : goal.returns-then-keeps_arms
-returns-then-keeps_arms c = let a = c.args in
-    arm-kept a.rows.now a.limits.now a.choice (parts_in a.opened.now) a.sums.now c.keeps_arms.ensures c.if-keeps_arms.true
-    c.keep_arm.ensures
+unfolding open_arm_kept
+returns-then-keeps_arms c = rw (sym c.keeps_arms.ensures, c.if-keeps_arms.true) cc
 
-pub returns-else-keeps_arms : goal.returns-else-keeps_arms
-returns-else-keeps_arms c = let a = c.args in
-    arm-unkept a.rows.now a.limits.now a.choice (parts_in a.opened.now) a.sums.now c.keeps_arms.ensures c.if-keeps_arms.false
+pub returns-else-some_ranked : goal.returns-else-some_ranked
+unfolding open_arm_kept
+returns-else-some_ranked c = elim c.else-some_ranked.branch [
+  | else-some_ranked-via-then-some_ranked+else-keeps_arms w ↦ rw (sym w.keeps_arms.ensures, w.if-keeps_arms.false) refl
+  | else-some_ranked-via-else-some_ranked w ↦
+      none_kept c.args.arrays.now.rows c.args.arrays.now.limits c.args.choice c.args.opened.now c.args.arm c.some_ranked.ensures w.if-some_ranked.false
+]
