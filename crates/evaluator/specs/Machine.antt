@@ -2,12 +2,12 @@
 use Rattle.std.specs.Prelude.{List, Bool, true, false, cond, ℕ, zero, suc, min, ltb}
 use Rattle.meaning.specs.Limits.{record_limit}
 use Rattle.layout.specs.Rows.{depth_at}
-use Rattle.state.specs.States.{StateParts}
+use Rattle.state.specs.declared.State.{State}
 use Rattle.passing.specs.Pass.{Passage, goes_on, pass_straight_work, pass_choice, is_of_loop, pass_loop}
 
 -- what is to follow, from a depth and a state on
 abbrev pub Further : Type 0
-Further = ℕ → StateParts → Passage
+Further = ℕ → State → Passage
 
 -- it follows at the depth that is reached, unless a visit begins
 unfoldable pub unless_begun : Bool → Further → Passage → Passage
@@ -36,16 +36,16 @@ module _ (rows differences limits : List ℕ) where
     unfoldable pub body_evaluator : ℕ → Further
     body_evaluator zero depth s = goes_on depth (pass_straight_work rows count s)
     body_evaluator (suc left) depth s =
-        let t : StateParts = pass_straight_work rows count s in
+        let t : State = pass_straight_work rows count s in
         pass_following (following_at rows count t.at) (body_evaluator left) depth t
 
 module _ (rows differences limits : List ℕ) (count : ℕ) where
   -- a stage on a plan with so many records, no more than a sheet has; of a sheet's plan it passes each at most once
-  unfoldable pub stage_on : StateParts → Passage
+  unfoldable pub stage_on : State → Passage
   stage_on s =
       let records : ℕ = min count record_limit in
       body_evaluator rows differences limits records records (depth_at rows s.at) s
 
   -- the next state on a plan
-  unfoldable pub next_on : StateParts → StateParts
+  unfoldable pub next_on : State → State
   next_on s = (stage_on s).after

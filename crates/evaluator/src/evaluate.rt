@@ -1,103 +1,54 @@
 // The body evaluator and the loop evaluator, which call each other up to the start of a visit or the sheet's end: the records that are left fall
-// with each one passed that is no straight work, the nesting depth where a loop is left.
+// with each one passed that is no straight work, the nesting depth where a loop is left. They stay two functions that call each other, since a loop's
+// time rests on its body's, and a body's on the loops in it.
 ghost use Rattle.std.specs.Prelude.{◌≡◌, ◌<◌, ◌≤◌};
 ghost use Rattle.meaning.specs.Limits.{record_limit, depth_limit};
-ghost use Rattle.state.specs.States.{state_in};
 ghost use Rattle.evaluator.specs.Machine.{body_evaluator, loop_evaluator};
 
-use layout::differences::Differences;
-use layout::limits::Limits;
-use layout::rows::Rows;
+use layout::PlanArrays;
 use passing::loops::pass_loop;
 use passing::pass::{of_loop, pass_choice, pass_straight_work};
-use state::open::Open;
-use state::sums::Sums;
+use state::State;
 
-// The body evaluator: what follows one another, with at most `left` records that are no straight work; answers where the stage then stands.
+// The body evaluator: what follows one another, with at most `left` records that are no straight work.
 #[cycle(evaluate_body_evaluate_loop)]
 pub(crate) fn evaluate_body(
-    rows: &Rows,
-    differences: &Differences,
-    limits: &Limits,
+    arrays: &PlanArrays,
     count: usize,
     left: usize,
     depth: usize,
-    from: usize,
-    sums: &mut Sums,
-    opened: &mut Open,
-) -> usize
+    state: &mut State,
+)
     requires { (count ≤ record_limit) × (depth ≤ depth_limit) }
-    ensures { (body_evaluator rows.now differences.now limits.now count left depth
-        (state_in from sums.old opened.old)).after
-        ≡ state_in result sums.new opened.new }
+    ensures { (body_evaluator arrays.now.rows arrays.now.differences arrays.now.limits count left depth state.old).after ≡ state.new }
 {
-    let at = pass_straight_work(rows, count, from, sums);
+    pass_straight_work(&arrays.rows, count, state);
     if left == 0 {
-        return at;
+        return;
     }
-    if count <= at {
-        return at;
+    if count <= state.at {
+        return;
     }
     let rest = left - 1;
-    if of_loop(rows, at) {
-        return evaluate_loop(
-            rows,
-            differences,
-            limits,
-            count,
-            rest,
-            depth,
-            at,
-            sums,
-            opened,
-        );
+    if of_loop(&arrays.rows, state.at) {
+        evaluate_loop(arrays, count, rest, depth, state);
+        return;
     }
-    pass_choice(rows, limits, at, sums, opened);
-    evaluate_body(
-        rows,
-        differences,
-        limits,
-        count,
-        rest,
-        depth,
-        at + 1,
-        sums,
-        opened,
-    )
+    pass_choice(arrays, state);
+    state.at += 1;
+    evaluate_body(arrays, count, rest, depth, state);
 }
 
 // The loop evaluator: a loop's record, or its end, and what follows unless a visit begins.
 #[cycle(evaluate_body_evaluate_loop)]
-fn evaluate_loop(
-    rows: &Rows,
-    differences: &Differences,
-    limits: &Limits,
-    count: usize,
-    left: usize,
-    depth: usize,
-    at: usize,
-    sums: &mut Sums,
-    opened: &mut Open,
-) -> usize
-    requires { (count ≤ record_limit) × ((depth ≤ depth_limit) × (at < record_limit)) }
-    ensures { (loop_evaluator rows.now differences.now limits.now
-        (body_evaluator rows.now differences.now limits.now count left) depth
-        (state_in at sums.old opened.old)).after
-        ≡ state_in result sums.new opened.new }
+fn evaluate_loop(arrays: &PlanArrays, count: usize, left: usize, depth: usize, state: &mut State)
+    requires { (count ≤ record_limit) × ((depth ≤ depth_limit) × (state.old.at < record_limit)) }
+    ensures { (loop_evaluator arrays.now.rows arrays.now.differences arrays.now.limits
+        (body_evaluator arrays.now.rows arrays.now.differences arrays.now.limits count left) depth state.old).after ≡ state.new }
 {
-    let outcome = pass_loop(rows, differences, limits, depth, at, sums, opened);
+    let outcome = pass_loop(arrays, depth, state);
     if outcome.begun {
-        return outcome.at;
+        return;
     }
-    evaluate_body(
-        rows,
-        differences,
-        limits,
-        count,
-        left,
-        outcome.depth,
-        outcome.at,
-        sums,
-        opened,
-    )
+    evaluate_body(arrays, count, left, outcome.depth, state);
 }

@@ -3,55 +3,21 @@
 
 mod evaluate;
 
-ghost use Rattle.std.specs.Prelude.{◌≡◌, min};
-ghost use Rattle.meaning.specs.Limits.{record_limit};
-ghost use Rattle.state.specs.States.{state_in};
+ghost use Rattle.std.specs.Prelude.{◌≡◌};
 ghost use Rattle.evaluator.specs.Machine.{next_on};
 
 use crate::evaluate::evaluate_body;
-use layout::differences::Differences;
-use layout::limits::Limits;
-use layout::rows::{Rows, depth_at};
+use layout::PlanArrays;
+use layout::rows::depth_at;
 use records::MAX_RECORDS;
-use state::open::Open;
-use state::sums::Sums;
+use state::State;
 
-// No plan has more records than a sheet.
-fn within(count: usize) -> usize
-    ensures { result ≡ min count record_limit }
+// Passes records, of a plan with so many, from where the state stands to the start of the next visit or to the sheet's end. No plan has more records
+// than a sheet.
+pub fn advance(arrays: &PlanArrays, count: usize, state: &mut State)
+    ensures { next_on arrays.now.rows arrays.now.differences arrays.now.limits count state.old ≡ state.new }
 {
-    if count < MAX_RECORDS {
-        count
-    } else {
-        MAX_RECORDS
-    }
-}
-
-// Passes records, of a plan with so many, from `at` to the start of the next visit or to the sheet's end; answers where the stage then stands.
-pub fn advance(
-    rows: &Rows,
-    differences: &Differences,
-    limits: &Limits,
-    count: usize,
-    at: usize,
-    sums: &mut Sums,
-    opened: &mut Open,
-) -> usize
-    ensures { next_on rows.now differences.now limits.now count
-        (state_in at sums.old opened.old)
-        ≡ state_in result sums.new opened.new }
-{
-    let records = within(count);
-    let depth = depth_at(rows, at);
-    evaluate_body(
-        rows,
-        differences,
-        limits,
-        records,
-        records,
-        depth,
-        at,
-        sums,
-        opened,
-    )
+    let records = count.min(MAX_RECORDS);
+    let depth = depth_at(&arrays.rows, state.at);
+    evaluate_body(arrays, records, records, depth, state);
 }

@@ -1,48 +1,46 @@
 -- The ways through both evaluators are those of their definitions.
 use Rattle.std.proofs.Common.{sym, ◌∙◌, arith}
-use Rattle.state.specs.Open.{parts_in}
-use Rattle.state.specs.States.{state_in}
 use Rattle.evaluator.specs.Machine.{body_evaluator}
 use Rattle.evaluator.proofs.MachineLaws.{body-done, body-past, body-loop, body-choice, loop-shallow, loop-begun, loop-on}
 use Rattle.evaluator.proofs.evaluate.+evaluate_body_evaluate_loop.Goals as goal
 
 pub evaluate_body-returns-then-left-eq0 : goal.evaluate_body-returns-then-left-eq0
-evaluate_body-returns-then-left-eq0 t c = let a = c.args in
-    body-done a.rows.now a.differences.now a.limits.now a.count a.left a.depth
-    (state_in a.from a.sums.now a.opened.now) (c.pass_straight_work-at.ensures (parts_in a.opened.now)) c.if-left-eq0.true
+evaluate_body-returns-then-left-eq0 t c = let a = c.args in let m = a.arrays.now in
+    body-done m.rows m.differences m.limits a.count a.left a.depth
+    a.state.now c.pass_straight_work.ensures c.if-left-eq0.true
 
-pub evaluate_body-returns-then-count-at : goal.evaluate_body-returns-then-count-at
-evaluate_body-returns-then-count-at t c = let a = c.args in
-    body-past a.rows.now a.differences.now a.limits.now a.count a.left a.depth
-    (state_in a.from a.sums.now a.opened.now) (c.pass_straight_work-at.ensures (parts_in a.opened.now)) c.if-left-eq0.false c.if-count-at.true
+pub evaluate_body-returns-then-count-state : goal.evaluate_body-returns-then-count-state
+evaluate_body-returns-then-count-state t c = let a = c.args in let m = a.arrays.now in
+    body-past m.rows m.differences m.limits a.count a.left a.depth
+    a.state.now c.pass_straight_work.ensures c.if-left-eq0.false c.if-count-state.true
 
 pub evaluate_body-returns-then-of_loop : goal.evaluate_body-returns-then-of_loop
-evaluate_body-returns-then-of_loop t c = let a = c.args in
-    body-loop a.rows.now a.differences.now a.limits.now a.count a.left a.depth
-    (state_in a.from a.sums.now a.opened.now) (c.pass_straight_work-at.ensures (parts_in a.opened.now)) c.if-left-eq0.false c.if-count-at.false
+evaluate_body-returns-then-of_loop t c = let a = c.args in let m = a.arrays.now in
+    body-loop m.rows m.differences m.limits a.count a.left a.depth
+    a.state.now c.pass_straight_work.ensures c.if-left-eq0.false c.if-count-state.false
     (sym c.of_loop.ensures ∙ c.if-of_loop.true) c.evaluate_loop.ensures
 
 pub evaluate_body-returns : goal.evaluate_body-returns
-evaluate_body-returns t c = let a = c.args in
-    body-choice a.rows.now a.differences.now a.limits.now a.count a.left a.depth
-    (state_in a.from a.sums.now a.opened.now) (c.pass_straight_work-at.ensures (parts_in a.opened.now)) c.if-left-eq0.false c.if-count-at.false
-    (sym c.of_loop.ensures ∙ c.if-of_loop.false) c.pass_choice.ensures c.evaluate_body.ensures
+evaluate_body-returns t c = let a = c.args in let m = a.arrays.now in
+    body-choice m.rows m.differences m.limits a.count a.left a.depth
+    a.state.now c.pass_straight_work.ensures c.if-left-eq0.false c.pass_choice.new.state c.if-count-state.false
+    (sym c.of_loop.ensures ∙ c.if-of_loop.false) c.pass_choice.ensures.after c.evaluate_body.ensures
 
 pub evaluate_loop-returns-then-outcome : goal.evaluate_loop-returns-then-outcome
-evaluate_loop-returns-then-outcome t c = let a = c.args in
-    loop-begun a.rows.now a.differences.now a.limits.now a.count
-    (body_evaluator a.rows.now a.differences.now a.limits.now a.count a.left) a.depth
-    (state_in a.at a.sums.now a.opened.now) c.pass_loop-outcome.ensures c.if-outcome.true
+evaluate_loop-returns-then-outcome t c = let a = c.args in let m = a.arrays.now in
+    loop-begun m.rows m.differences m.limits a.count
+    (body_evaluator m.rows m.differences m.limits a.count a.left) a.depth
+    a.state.now c.pass_loop-outcome.ensures c.if-outcome.true
 
 pub evaluate_loop-evaluate_body-requires : goal.evaluate_loop-evaluate_body-requires
-evaluate_loop-evaluate_body-requires t c = let a = c.args in
-    let h = loop-shallow a.rows.now a.differences.now a.limits.now a.count
-    (body_evaluator a.rows.now a.differences.now a.limits.now a.count a.left) a.depth
-    (state_in a.at a.sums.now a.opened.now) c.pass_loop-outcome.ensures c.if-outcome.false in
+evaluate_loop-evaluate_body-requires t c = let a = c.args in let m = a.arrays.now in
+    let h = loop-shallow m.rows m.differences m.limits a.count
+    (body_evaluator m.rows m.differences m.limits a.count a.left) a.depth
+    a.state.now c.pass_loop-outcome.ensures c.if-outcome.false in
     omega arith
 
 pub evaluate_loop-returns : goal.evaluate_loop-returns
-evaluate_loop-returns t c = let a = c.args in
-    loop-on a.rows.now a.differences.now a.limits.now a.count
-    (body_evaluator a.rows.now a.differences.now a.limits.now a.count a.left) a.depth
-    (state_in a.at a.sums.now a.opened.now) c.pass_loop-outcome.ensures c.if-outcome.false c.evaluate_body.ensures
+evaluate_loop-returns t c = let a = c.args in let m = a.arrays.now in
+    loop-on m.rows m.differences m.limits a.count
+    (body_evaluator m.rows m.differences m.limits a.count a.left) a.depth
+    a.state.now c.pass_loop-outcome.ensures c.if-outcome.false c.evaluate_body.ensures
