@@ -1,7 +1,7 @@
 -- The walk that stores the limits: those of the loops passed.
 use mathlib.Core.List.{◌++◌, List, [], append-nil, map-append, ◌∷◌}
 use mathlib.Core.Option.{Option, none, some}
-use mathlib.Core.Path.{ap, ap₂, refl, sym, ◌∙◌, ◌≡◌}
+use mathlib.Core.Path.{ap, ap₂, refl, sym, ◌∙◌, ◌≡◌, subst}
 use Prim.Native.Nat.{◌+◌, ◌-◌, ◌<◌, max, suc, zero, ℕ, ◌≤◌}
 use native.Mathlib.Numerals.{add-one}
 use native.Mathlib.Omega.{arith}
@@ -33,6 +33,13 @@ limits-size plans = length-map plans (λ p. number_of p.class p.height)
 limits-more : (plans : List LoopPlan) (p : LoopPlan) → numbers_stored plans ++ (number_of p.class p.height ∷ []) ≡ numbers_stored (plans ++ (p ∷ []))
 unfolding numbers_stored
 limits-more plans p = sym (map-append (λ q. number_of q.class q.height) plans (p ∷ []))
+
+-- equal arrays hold the same
+pub surveyed-same : {sheet : List ℕ} {ps : List ℤ} {count : ℕ} {rows words facts rows0 words0 facts0 : List ℕ} → rows ≡ rows0 → words ≡ words0 → facts ≡ facts0 →
+    Surveyed sheet ps count rows0 words0 facts0 → Surveyed sheet ps count rows words facts
+surveyed-same {sheet} {ps} {count} {rows} {words} {facts} {rows0} {words0} {facts0} r w f s =
+    subst (λ (x : List ℕ). Surveyed sheet ps count x words facts) (sym r)
+    (subst (λ (x : List ℕ). Surveyed sheet ps count rows0 x facts) (sym w) (subst (λ (x : List ℕ). Surveyed sheet ps count rows0 words0 x) (sym f) s))
 
 pub record Limited (count : ℕ) (rows differences facts before limits : List ℕ) (n : ℕ) : Type 0 where
   pub so_far : n ≤ count

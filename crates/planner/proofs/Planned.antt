@@ -19,11 +19,13 @@ use Rattle.loops.specs.Facts.{LoopFacts, facts_stored, loops_in, over_ceiling, s
 use Rattle.loops.specs.Enclosing.{nothing_open}
 use Rattle.loops.proofs.Facts.{facts-length}
 use Rattle.loops.proofs.Surveying.{within_all}
-use Rattle.planner.specs.declared.PlanAnswer.{PlanAnswer}
-use Rattle.planner.specs.declared.PlanAnswer.TheVariants as plan
+use Rattle.std.specs.Prelude as Std
+use Rattle.std.specs.Prelude.{Ok, Err}
+use Rattle.sheet.specs.Refusals.{refusal_number}
+use Rattle.sheet.specs.Answers.{refusable}
 use Rattle.planner.specs.Plan.{Plan, limits_in, plan_of, plan_of_records}
 use Rattle.planner.specs.Known.{PlanHeld}
-use Rattle.planner.specs.Answers.{plan_count, plan_result}
+use Rattle.planner.specs.Answers.{plan_count}
 use Rattle.planner.proofs.PlanReports.{over-ceiling}
 use mathlib.Core.Option.{none}
 
@@ -47,22 +49,22 @@ accepted-plan sheet ps rs e =
     }
 
 -- a plan is that of an accepted sheet, and a refusal is the sheet's
-module _ (sheet : List ℕ) (ps : List ℤ) (answer : PlanAnswer) (is : plan_result answer ≡ plan_count (plan_of sheet ps)) where
-  pub planned-count : {n : ℕ} → answer ≡ plan.Count n → (rs : List Record) × (accepted sheet ps ≡ ok rs) × (n ≡ length rs)
+module _ (sheet : List ℕ) (ps : List ℤ) (answer : Std.Result ℕ Refusal) (is : refusable answer ≡ plan_count (plan_of sheet ps)) where
+  pub planned-count : {n : ℕ} → answer ≡ Ok n → (rs : List Record) × (accepted sheet ps ≡ ok rs) × (n ≡ length rs)
   unfolding plan_of plan_of_records and_then plan_count
-  planned-count {n} e = go (accepted sheet ps) (sym (ap plan_result e) ∙ is)
+  planned-count {n} e = go (accepted sheet ps) (sym (ap refusable e) ∙ is)
     where
       go : (r : Result (List Record)) → ok n ≡ plan_count (and_then r (λ xs. ok (plan_of_records ps xs))) → (rs : List Record) × (r ≡ ok rs) × (n ≡ length rs)
       go (ok rs) h = (rs, refl, ok-injective h)
       go (refused number place) h = refused-is-not-ok (sym h)
 
-  pub planned-refused : {r : Refusal} → answer ≡ plan.Refused r → accepted sheet ps ≡ refused r.number r.offset
+  pub planned-refused : {r : Refusal} → answer ≡ Err r → accepted sheet ps ≡ refused (refusal_number r.kind) r.offset
   unfolding plan_of and_then plan_count
-  planned-refused {r} e = go (accepted sheet ps) (sym (ap plan_result e) ∙ is)
+  planned-refused {r} e = go (accepted sheet ps) (sym (ap refusable e) ∙ is)
     where
-      go : (x : Result (List Record)) → refused r.number r.offset ≡ plan_count (and_then x (λ xs. ok (plan_of_records ps xs))) → x ≡ refused r.number r.offset
+      go : (x : Result (List Record)) → refused (refusal_number r.kind) r.offset ≡ plan_count (and_then x (λ xs. ok (plan_of_records ps xs))) → x ≡ refused (refusal_number r.kind) r.offset
       go (ok rs) h = refused-is-not-ok h
-      go (refused number place) h = let p : number ≡ r.number = cc in let q : place ≡ r.offset = cc in λ i. refused (p i) (q i)
+      go (refused number place) h = let p : number ≡ refusal_number r.kind = cc in let q : place ≡ r.offset = cc in λ i. refused (p i) (q i)
 
 pub refused-plan : (sheet : List ℕ) (ps : List ℤ) {number place : ℕ} → accepted sheet ps ≡ refused number place → plan_of sheet ps ≡ refused number place
 unfolding plan_of and_then

@@ -13,10 +13,11 @@ use Rattle.meaning.specs.Reader.{Result, and_then, ok, read, refused}
 use Rattle.meaning.specs.Answer.{accepted_by, check_ceilings, sheet_reports}
 use Rattle.meaning.specs.Report.{first_over_ceiling}
 use Rattle.meaning.proofs.Logic.{refused-is-not-ok}
-use Rattle.sheet.specs.declared.reader.ReadAnswer.{ReadAnswer}
+use Rattle.std.specs.Prelude as Std
+use Rattle.std.specs.Prelude.{Ok, Err}
 use Rattle.sheet.specs.declared.refusal.Refusal.{Refusal}
-use Rattle.sheet.specs.declared.reader.ReadAnswer.TheVariants as answer
-use Rattle.sheet.specs.Answers.{count_result, counted}
+use Rattle.sheet.specs.Answers.{refusable, counted}
+use Rattle.sheet.specs.Refusals.{refusal_number}
 use Rattle.sheet.specs.Sheets.{records_in, records_of}
 use Rattle.sheet.proofs.SheetRecords.{records-in-place, counted-refused}
 use Rattle.layout.specs.Numbers.{stored_in, joined}
@@ -32,17 +33,17 @@ use Rattle.planner.proofs.PlanReports.{over-ceiling}
 
 -- ---- the reader's answer
 
-module _ (sheet : List ℕ) (a : ReadAnswer) (is : count_result a ≡ counted (read sheet)) where
-  pub count-read : (n : ℕ) → a ≡ answer.Count n → (read sheet ≡ ok (records_of sheet)) × (n ≡ length (records_of sheet))
+module _ (sheet : List ℕ) (a : Std.Result ℕ Refusal) (is : refusable a ≡ counted (read sheet)) where
+  pub count-read : (n : ℕ) → a ≡ Ok n → (read sheet ≡ ok (records_of sheet)) × (n ≡ length (records_of sheet))
   unfolding records_of records_in counted
-  count-read n e = go (read sheet) (sym (ap count_result e) ∙ is)
+  count-read n e = go (read sheet) (sym (ap refusable e) ∙ is)
     where
       go : (r : Result (List Record)) → ok n ≡ counted r → (r ≡ ok (records_in r)) × (n ≡ length (records_in r))
       go (ok rs) h = (refl, cc)
       go (refused number place) h = refused-is-not-ok (sym h)
 
-  pub refusal-read : (r : Refusal) → a ≡ answer.Refused r → read sheet ≡ refused r.number r.offset
-  refusal-read r e = counted-refused (read sheet) r.number r.offset (sym is ∙ ap count_result e)
+  pub refusal-read : (r : Refusal) → a ≡ Err r → read sheet ≡ refused (refusal_number r.kind) r.offset
+  refusal-read r e = counted-refused (read sheet) (refusal_number r.kind) r.offset (sym is ∙ ap refusable e)
 
 -- ---- the plan as it is made: the reader, then the walk, then refusal 6
 

@@ -11,6 +11,9 @@ use borrow.Author.Tests.{eq-eqb, le-ltb, lt-ltb, ne_eqb}
 use lib.ListN.{drop, drop_of_length-le, get_or, length, take}
 use lib.Dec.{eqb, ltb}
 use lib.Seq.{drop-cons}
+use mir.Syntax.{w64}
+use mir.Val.{SFits, sel, to_z, of_z}
+use mir.Facts.{to_z-of_z}
 use lib.IntN.{nat_abs, negsuc, pos, ℤ}
 use Rattle.whole.specs.Integer.{floor_remainder, divides}
 use Rattle.meaning.specs.Limits.{index_factors, depth_limit}
@@ -24,13 +27,14 @@ use Rattle.loops.specs.Facts.{LoopFacts}
 
 -- ---- words
 
-pub size_low : (word : ℕ) → word < 2 ^ 63 → word ≡ word_size word
+-- the size of the integer that a word stands for, as std has it
+pub size-cast : {word size : ℕ} {z : ℤ} → SFits w64 z → word < 2 ^ 64 → z ≡ to_z w64 word → size ≡ nat_abs (to_z w64 (of_z w64 z)) → size ≡ word_size word
 unfolding word_size
-size_low word h = rw (lt-ltb word (2 ^ 63) h)
-
-pub size-high : (word : ℕ) → 2 ^ 63 ≤ word → word < 2 ^ 64 → (2 ^ 64 - 1) - word + 1 ≡ word_size word
-unfolding word_size
-size-high word h k = rw (le-ltb word (2 ^ 63) h) (omega arith)
+size-cast {word} s h e f = f ∙ ap nat_abs (to_z-of_z s ∙ e) ∙ by-half (ltb word (2 ^ 63))
+  where
+    by-half : (t : Bool) → nat_abs (sel t (pos word) (negsuc (2 ^ 64 - suc word))) ≡ cond t word (2 ^ 64 - word)
+    by-half true = refl
+    by-half false = omega arith
 
 -- a word's size is that of the integer that it stands for
 size-of-word : (z : ℤ) → nat_abs z < 2 ^ 63 → word_size (word_of z) ≡ nat_abs z

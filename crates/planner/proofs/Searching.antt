@@ -102,18 +102,16 @@ module _ (rows : List ℕ) (i : ℕ) {holds : Bool} (holds_is : holds ≡ eqb (r
 
 -- ---- the loop around a record
 
-module _ (rows : List ℕ) (m : ℕ) {i : ℕ} (some_left : 0 < i) {is : Bool} (is_is : is ≡ eqb (role_at rows (i - 1)) (role_number loop_role) && eqb (depth_at rows (i - 1)) m) where
-  around-step : loop_around rows m i ≡ cond is (i - 1) (loop_around rows m (i - 1))
+module _ (rows : List ℕ) (m i : ℕ) {is : Bool} (is_is : is ≡ eqb (role_at rows i) (role_number loop_role) && eqb (depth_at rows i) m) where
+  around-step : loop_around rows m (i + 1) ≡ cond is i (loop_around rows m i)
   unfolding loop_around
-  around-step =
-      ap (loop_around rows m) (let e : i ≡ suc (i - 1) = omega arith in e)
-      ∙ ap (λ (c : Bool). cond c (i - 1) (loop_around rows m (i - 1))) (sym is_is)
+  around-step = ap (loop_around rows m) (add-one i) ∙ ap (λ (c : Bool). cond c i (loop_around rows m i)) (sym is_is)
 
-  pub around-found : is ≡ true → i - 1 ≡ loop_around rows m i
-  around-found e = sym (around-step ∙ ap (λ (c : Bool). cond c (i - 1) (loop_around rows m (i - 1))) e)
+  pub around-found : is ≡ true → i ≡ loop_around rows m (i + 1)
+  around-found e = sym (around-step ∙ ap (λ (c : Bool). cond c i (loop_around rows m i)) e)
 
-  pub around-next : is ≡ false → loop_around rows m i ≡ loop_around rows m (i - 1)
-  around-next e = around-step ∙ ap (λ (c : Bool). cond c (i - 1) (loop_around rows m (i - 1))) e
+  pub around-next : is ≡ false → loop_around rows m i ≡ loop_around rows m (i + 1)
+  around-next e = sym (around-step ∙ ap (λ (c : Bool). cond c i (loop_around rows m i)) e)
 
 -- ---- loops
 

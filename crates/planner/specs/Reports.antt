@@ -1,5 +1,7 @@
 -- A loop's report, from the numbers of a plan.
 use Rattle.std.specs.Prelude.{List, [], ◌∷◌, cond, ℕ, eqb}
+use Rattle.std.specs.Prelude as Std
+use Rattle.std.specs.Prelude.{Some, None}
 use Rattle.std.proofs.Math.Option.{Option, none}
 use Rattle.meaning.specs.Closed.{LoopClass, closed_class, ranked_class, walked_class}
 use Rattle.meaning.specs.Reason.{Reason}
@@ -7,10 +9,8 @@ use Rattle.reasons.specs.View.{found_in}
 use Rattle.layout.specs.Rows.{role_number, loop_role, role_at, loop_at, offset_at}
 use Rattle.layout.specs.Loops.{ceiling_at, limit_at, ranked_at}
 use Rattle.planner.specs.declared.report.Class.{Class}
-use Rattle.planner.specs.declared.report.Report.{Report}
 use Rattle.planner.specs.declared.report.Class.TheVariants as class
 use Rattle.planner.specs.declared.report.LoopReport as Code
-use Rattle.planner.specs.declared.report.Report.TheVariants as report
 use Rattle.planner.specs.Closing.{class_by}
 use Rattle.planner.specs.Reasons.{reason_at}
 use Rattle.meaning.specs.Report.{LoopReport}
@@ -24,9 +24,9 @@ class_in class.Walked = walked_class
 abbrev pub loop_report_in : Code.LoopReport → LoopReport
 loop_report_in r = record { offset = r.offset; class = class_in r.class; ceiling = r.ceiling; reason = found_in r.reason }
 
-abbrev pub report_in : Report → List LoopReport
-report_in (report.OfLoop r) = loop_report_in r ∷ []
-report_in report.Nothing = []
+abbrev pub report_in : Std.Option Code.LoopReport → List LoopReport
+report_in (Some r) = loop_report_in r ∷ []
+report_in None = []
 
 -- the reason of a loop of this class, where one is found; a closed loop has none
 unfoldable pub reason_by : LoopClass → Option Reason → Option Reason

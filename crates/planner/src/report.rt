@@ -6,82 +6,66 @@ ghost use Rattle.planner.specs.Reasons.{reason_at};
 ghost use Rattle.reasons.specs.View.{found_in};
 
 use crate::reason::reason_of;
-use layout::differences::Differences;
-use layout::facts::{Facts, ceiling_at};
-use layout::limits::{Limits, limit_at, ranked_at};
-use layout::rows::{LOOP, Rows, loop_at, offset_at, role_at};
-use reasons::Found;
+use layout::PlanArrays;
+use layout::facts::ceiling_at;
+use layout::limits::{limit_at, ranked_at};
+use layout::rows::{Role, loop_at, offset_at, role_at};
+use reasons::Reason;
 
-#[derive(Clone, Copy)]
+#[derive(Clone, Copy, PartialEq, Eq)]
 pub enum Class {
     Closed,
     Ranked,
     Walked,
 }
 
-#[derive(Clone, Copy)]
+#[derive(Clone, Copy, PartialEq, Eq)]
 pub struct LoopReport {
     pub offset: u64,
     pub class: Class,
     pub ceiling: u64,
-    pub reason: Found,
-}
-
-#[derive(Clone, Copy)]
-pub enum Report {
-    OfLoop(LoopReport),
-    Nothing,
+    pub reason: Option<Reason>,
 }
 
 // The class of a loop with this limit, by whether it is ranked.
+#[tactic(auto, unfolding(crate::specs::Closing::class_by))]
 fn class_by(limit: u64, ranked: bool) -> Class
     ensures { class_in result ≡ class_by limit ranked }
 {
-    if limit == 0 {
-        return Class::Walked;
+    match (limit, ranked) {
+        (0, _) => Class::Walked,
+        (_, true) => Class::Ranked,
+        (_, false) => Class::Closed,
     }
-    if ranked {
-        return Class::Ranked;
-    }
-    Class::Closed
 }
 
 // Why the loop with this record number and class is not closed. A closed one has no reason, so that none is searched for.
-fn reason_by(
-    class: Class,
-    rows: &Rows,
-    differences: &Differences,
-    facts: &Facts,
-    number: usize,
-) -> Found
-    ensures { found_in result ≡ reason_by (class_in class) (reason_at rows.now differences.now facts.now number) }
+#[tactic(auto, unfolding(crate::specs::Reports::reason_by))]
+fn reason_by(class: Class, arrays: &PlanArrays, number: usize) -> Option<Reason>
+    ensures { found_in result ≡ reason_by (class_in class) (reason_at arrays.now.rows arrays.now.differences arrays.now.facts number) }
 {
-    if let Class::Closed = class {
-        return Found::Nothing;
+    match class {
+        Class::Closed => None,
+        Class::Ranked | Class::Walked => reason_of(arrays, number),
     }
-    reason_of(rows, differences, facts, number)
 }
 
 // Of the record with this number: a loop's report; nothing of another record.
-pub fn report_of(
-    rows: &Rows,
-    differences: &Differences,
-    facts: &Facts,
-    limits: &Limits,
-    number: usize,
-) -> Report
-    ensures { report_in result ≡ report_at rows.now differences.now facts.now limits.now number }
+pub fn report_of(arrays: &PlanArrays, number: usize) -> Option<LoopReport>
+    ensures { report_in result ≡ report_at arrays.now.rows arrays.now.differences arrays.now.facts arrays.now.limits number }
 {
-    if role_at(rows, number) != LOOP {
-        return Report::Nothing;
+    if role_at(&arrays.rows, number) != Role::Loop {
+        return None;
     }
-    let of_loop = loop_at(rows, number);
-    let class = class_by(limit_at(limits, of_loop), ranked_at(limits, of_loop));
-    let reason = reason_by(class, rows, differences, facts, number);
-    Report::OfLoop(LoopReport {
-        offset: offset_at(rows, number) as u64,
-        class: class,
-        ceiling: ceiling_at(facts, of_loop),
-        reason: reason,
+    let of_loop = loop_at(&arrays.rows, number);
+    let class = class_by(
+        limit_at(&arrays.limits, of_loop),
+        ranked_at(&arrays.limits, of_loop),
+    );
+    Some(LoopReport {
+        offset: offset_at(&arrays.rows, number) as u64,
+        class,
+        ceiling: ceiling_at(&arrays.facts, of_loop),
+        reason: reason_by(class, arrays, number),
     })
 }

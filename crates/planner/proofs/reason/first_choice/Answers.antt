@@ -1,4 +1,4 @@
--- The invariant: the choices from record `i` on settle what is found. The measure is the records left inside.
+-- The invariant: the choices from record `i` on settle what is found.
 use mathlib.Core.Path.{refl}
 use Rattle.planner.specs.Reasons.{choice_tests_at, choice_tests_inside}
 use Rattle.planner.proofs.Searching.{search-start-at, search-done, search-found, search-next, choice-fails, choice-passes}
@@ -8,7 +8,7 @@ pub loop-i-init : goal.loop-i-init
 unfolding choice_tests_inside
 loop-i-init c =
     let given = c.args in
-    search-start-at (λ depth. choice_tests_at given.rows.now) given.number 0 refl c.end_at-end.ensures
+    search-start-at (λ depth. choice_tests_at given.rows.now) given.number 0 refl c.end_at-i-end.ensures
 
 pub returns-then-holds_loop : goal.returns-then-holds_loop
 returns-then-holds_loop c =

@@ -1,17 +1,18 @@
 -- Only a choice holds a loop; it does where fewer loops stand before it than before its end.
-use mathlib.Core.Path.{ap, ap₂, sym, ◌∙◌}
+use mathlib.Core.Path.{refl, ap, ap₂, sym, ◌∙◌}
 use lib.Dec.{ltb}
-use borrow.Author.Tests.{eq-eqb, ne_eqb}
-use Rattle.layout.specs.Rows.{loops_before_at, role_number}
+use Rattle.layout.specs.Rows.{loops_before_at, choice_role}
+use Rattle.layout.proofs.Roles.{role-test}
 use Rattle.planner.specs.Reasons.{holds_loop_at}
 use Rattle.planner.proofs.reason.holds_loop.Goals as goal
 
-pub returns-then-role_at-ne-CHOICE : goal.returns-then-role_at-ne-CHOICE
-unfolding role_number
-returns-then-role_at-ne-CHOICE c = rw (ne_eqb _ 3 (λ e. c.if-role_at-ne-CHOICE.true (c.role_at.ensures ∙ e)))
+pub returns-then-eq : goal.returns-then-eq
+unfolding holds_loop_at
+returns-then-eq c =
+    let is = sym (role-test choice_role refl _ c.role_at.ensures c.eq.ensures) ∙ c.if-eq.true in
+    ap₂ ltb c.loops_before_at.ensures (c.loops_before_at-then-eq.ensures ∙ ap (loops_before_at _) c.end_at.ensures) ∙ rw is
 
-pub returns : goal.returns
-unfolding role_number holds_loop_at
-returns c =
-    ap₂ ltb c.loops_before_at.ensures (c.loops_before_at-2.ensures ∙ ap (loops_before_at _) c.end_at.ensures)
-    ∙ rw (eq-eqb _ 3 (sym c.role_at.ensures ∙ c.if-role_at-ne-CHOICE.false))
+pub returns-else-eq : goal.returns-else-eq
+returns-else-eq c =
+    let is = sym (role-test choice_role refl _ c.role_at.ensures c.eq.ensures) ∙ c.if-eq.false in
+    c.if-eq.false ∙ rw is

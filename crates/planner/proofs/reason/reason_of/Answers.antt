@@ -5,21 +5,19 @@ use Rattle.planner.proofs.Searching.{reason-choice, reason-loop}
 use Rattle.planner.proofs.ReasonRead.{reason-among}
 use Rattle.planner.proofs.reason.reason_of.Goals as goal
 
-pub returns-in-Because : goal.returns-in-Because
-returns-in-Because c =
-    let given = c.args in
-    let found = reason-choice given.rows.now given.differences.now given.facts.now given.number
-    (sym (ap found_in c.in-Because.is) ∙ c.first_choice-choice.ensures) in
+pub returns-in-Some : goal.returns-in-Some
+returns-in-Some c =
+    let arrays = c.args.arrays.now in
+    let found = reason-choice arrays.rows arrays.differences arrays.facts c.args.number (sym (ap found_in c.in-Some.is) ∙ c.first_choice.ensures) in
     record {
       found = found;
       reason = λ sheet parameters xs l ys among. found ∙ reason-among among;
     }
 
-pub returns-in-Nothing : goal.returns-in-Nothing
-returns-in-Nothing c =
-    let given = c.args in
-    let found = reason-loop given.rows.now given.differences.now given.facts.now given.number
-    (sym (ap found_in c.in-Nothing.is) ∙ c.first_choice-choice.ensures) c.first_loop.ensures in
+pub returns-in-None : goal.returns-in-None
+returns-in-None c =
+    let arrays = c.args.arrays.now in
+    let found = reason-loop arrays.rows arrays.differences arrays.facts c.args.number (sym (ap found_in c.in-None.is) ∙ c.first_choice.ensures) c.first_loop.ensures in
     record {
       found = found;
       reason = λ sheet parameters xs l ys among. found ∙ reason-among among;
