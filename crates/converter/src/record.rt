@@ -8,7 +8,7 @@ ghost use Rattle.records.specs.View.{meant_kind};
 ghost use Rattle.converter.specs.Converting.{BodyOf, changed, stays};
 
 use encoding::number::unsigned16_at;
-use encoding::put::{put, put_byte, put_unsigned16};
+use encoding::put::{put, put_byte};
 use records::Kind;
 use records::loops::Loop;
 
@@ -35,7 +35,7 @@ fn put_loop(body: &[u8], own: bool, skips: bool, buffer: &mut [u8], at: usize) -
     }
     let next = put_byte(buffer, at, Kind::SkipLoop.number());
     let next = put(buffer, next, plain);
-    put_unsigned16(buffer, next, Loop::skip_cycles(body, own))
+    put(buffer, next, &Loop::skip_cycles(body, own).to_le_bytes())
 }
 
 // A record of a kind with its body: a loop with a skip or without, any other record as it is.

@@ -45,7 +45,3 @@ module _ {half : ℕ} {w : Width} (widths : Widths half w) where
 -- a number that was handed over by its pattern
 pub kept : {w : Width} {r z : ℤ} → SFits w r → r ≡ z → to_z w (of_z w r) ≡ z
 kept f e = to_z-of_z f ∙ e
-
--- the pattern of a number that was handed over by its pattern
-pub handed : (half : ℕ) {w : Width} {z : ℤ} {r : ℕ} → SFits w z → r ≡ encode_signed half (to_z w (of_z w z)) → r ≡ encode_signed half z
-handed half f e = e ∙ ap (encode_signed half) (to_z-of_z f)

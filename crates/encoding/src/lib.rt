@@ -3,5 +3,4 @@
 
 pub mod decimal;
 pub mod number;
-pub mod pattern;
 pub mod put;

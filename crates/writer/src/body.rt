@@ -8,8 +8,7 @@ ghost use Rattle.form.specs.Packed.{form_of};
 ghost use Rattle.meaning.specs.Limits.{body_limit};
 ghost use Rattle.records.specs.View.{meant_kind, work_of, loop_of, raw_record_of};
 
-use encoding::pattern::{pattern8, pattern16, two_bytes};
-use encoding::put::{put, put_unsigned16};
+use encoding::put::put;
 use form::packed::PackedForm;
 use records::loops::Loop;
 use records::work::Work;
@@ -21,19 +20,19 @@ const FORM_LENGTH: usize = 9;
 fn form_bytes(form: PackedForm) -> [u8; FORM_LENGTH]
     ensures { result ≡ form_bytes (form_of form) }
 {
-    let [low, high] = two_bytes(pattern16(form.constant));
+    let [low, high] = form.constant.cast_unsigned().to_le_bytes();
     let [i1, i2, i3] = form.index;
     let [p1, p2, p3, p4] = form.parameter;
     [
         low,
         high,
-        pattern8(i1),
-        pattern8(i2),
-        pattern8(i3),
-        pattern8(p1),
-        pattern8(p2),
-        pattern8(p3),
-        pattern8(p4),
+        i1.cast_unsigned(),
+        i2.cast_unsigned(),
+        i3.cast_unsigned(),
+        p1.cast_unsigned(),
+        p2.cast_unsigned(),
+        p3.cast_unsigned(),
+        p4.cast_unsigned(),
     ]
 }
 
@@ -41,8 +40,8 @@ fn put_work(buffer: &mut [u8], at: usize, fields: Work) -> usize
     requires { at + body_limit ≤ length buffer.old }
     ensures { Appended buffer.old at (body_bytes (work_of fields)) buffer.new result }
 {
-    let at = put_unsigned16(buffer, at, fields.least);
-    put_unsigned16(buffer, at, fields.most)
+    let at = put(buffer, at, &fields.least.to_le_bytes());
+    put(buffer, at, &fields.most.to_le_bytes())
 }
 
 // The body of a loop without a skip, after which a loop's skip stands.
@@ -50,9 +49,9 @@ fn put_loop(buffer: &mut [u8], at: usize, fields: Loop) -> usize
     requires { at + body_limit ≤ length buffer.old }
     ensures { Appended buffer.old at (body_bytes (loop_record (loop_of false fields))) buffer.new result }
 {
-    let at = put_unsigned16(buffer, at, fields.start);
-    let at = put_unsigned16(buffer, at, fields.step);
-    let at = put_unsigned16(buffer, at, pattern16(fields.stride));
+    let at = put(buffer, at, &fields.start.to_le_bytes());
+    let at = put(buffer, at, &fields.step.to_le_bytes());
+    let at = put(buffer, at, &fields.stride.cast_unsigned().to_le_bytes());
     let at = put(buffer, at, &form_bytes(fields.lower));
     put(buffer, at, &form_bytes(fields.upper))
 }
@@ -68,7 +67,7 @@ pub(crate) fn put_body(buffer: &mut [u8], at: usize, kind: Kind, item: Record) -
         Kind::Loop => put_loop(buffer, at, item.looping),
         Kind::SkipLoop => {
             let at = put_loop(buffer, at, item.looping);
-            put_unsigned16(buffer, at, item.looping.skip)
+            put(buffer, at, &item.looping.skip.to_le_bytes())
         }
         Kind::End | Kind::Choice | Kind::NextArm => at,
     }

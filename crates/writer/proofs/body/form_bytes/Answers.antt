@@ -5,7 +5,7 @@ use Rattle.writer.proofs.body.form_bytes.Goals as goal
 
 pub returns : goal.returns
 returns c =
-    form-bytes (form-fits c.args.form _ c.well_formed.0) c.pattern16.ensures c.two_bytes.ensures
-    c.pattern8.ensures c.pattern8-2.ensures c.pattern8-3.ensures
-    c.pattern8-4.ensures c.pattern8-5.ensures
-    c.pattern8-6.ensures c.pattern8-7.ensures
+    form-bytes (form-fits c.args.form _ c.well_formed.0) c.cast_unsigned.ensures c.to_le_bytes.ensures
+    c.cast_unsigned-2.ensures c.cast_unsigned-3.ensures c.cast_unsigned-4.ensures
+    c.cast_unsigned-5.ensures c.cast_unsigned-6.ensures
+    c.cast_unsigned-7.ensures c.cast_unsigned-8.ensures

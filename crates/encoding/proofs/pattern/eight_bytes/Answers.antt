@@ -1,8 +1,0 @@
--- The bytes of the number, the low one first.
-use Rattle.std.proofs.Common.{◌∙◌}
-use mir.Syntax.{w64}
-use Rattle.encoding.proofs.Fields.{le-bytes}
-use Rattle.encoding.proofs.pattern.eight_bytes.Goals as goal
-
-pub returns : goal.returns
-returns c = c.to_le_bytes.ensures ∙ le-bytes w64 c.args.number

@@ -1,6 +1,0 @@
--- The bits of the number are its pattern.
-use Rattle.encoding.proofs.Patterns.{bits64, encoded_of}
-use Rattle.encoding.proofs.pattern.pattern64.Goals as goal
-
-pub returns : goal.returns
-returns c = encoded_of bits64 c.ranges.number c.cast_unsigned.ensures
