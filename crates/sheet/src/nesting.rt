@@ -4,7 +4,8 @@ ghost use Rattle.std.proofs.Math.Option.{some};
 ghost use Rattle.meaning.specs.Record as M;
 ghost use Rattle.meaning.specs.Record.{kind_of, body_length, decode_record, Open, loop_depth};
 ghost use Rattle.meaning.specs.Reader.{accept};
-ghost use Rattle.sheet.specs.Nestings.{nesting_of, fields_pass, open_after_kind, extended_nesting, closed_nesting, nesting_after, may_stand_in};
+ghost use Rattle.records.specs.View.{meant};
+ghost use Rattle.sheet.specs.Nestings.{nesting_of, fields_pass_as, open_after_kind, extended_nesting, closed_nesting, nesting_after, may_stand_in_as};
 ghost use Rattle.sheet.specs.Answers.{refusable, accepted_of, accept_in};
 
 use crate::refusal::{Refusal, RefusalKind};
@@ -32,11 +33,11 @@ pub struct AcceptedRecord {
 }
 
 // 3: whether the fields of a record are in their ranges, `depth` loops being around it.
-#[tactic(auto, unfolding(crate::specs::Nestings::fields_pass, crate::specs::Nestings::fields_pass_as, meaning::specs::Record::fields_in_range, meaning::specs::Record::decode_record))]
-fn fields_in_range(kind: u8, body: &[u8], depth: usize) -> bool
-    ensures { (os : List Open) → loop_depth os ≡ depth → result ≡ fields_pass os kind body.now }
+#[tactic(auto, unfolding(crate::specs::Nestings::fields_pass_as, meaning::specs::Record::fields_in_range, meaning::specs::Record::decode_record))]
+fn fields_in_range(kind: Option<Kind>, body: &[u8], depth: usize) -> bool
+    ensures { (os : List Open) → loop_depth os ≡ depth → result ≡ fields_pass_as os body.now (meant kind) }
 {
-    match Kind::of(kind) {
+    match kind {
         Some(Kind::Work) => Work::in_range(body),
         Some(Kind::Loop) => Loop::in_range(body, false, depth),
         Some(Kind::SkipLoop) => Loop::in_range(body, true, depth),
@@ -56,11 +57,11 @@ impl Nesting {
     }
 
     // 5: whether a record of this kind may stand here.
-    #[tactic(auto, unfolding(crate::specs::Nestings::may_stand_in, crate::specs::Nestings::may_stand_in_as))]
-    fn allows(self, kind: u8) -> bool
-        ensures { result ≡ may_stand_in self kind }
+    #[tactic(auto, unfolding(crate::specs::Nestings::may_stand_in_as))]
+    fn allows(self, kind: Option<Kind>) -> bool
+        ensures { result ≡ may_stand_in_as self (meant kind) }
     {
-        match Kind::of(kind) {
+        match kind {
             Some(Kind::Loop | Kind::SkipLoop) => self.depth < MAX_DEPTH && self.size < MAX_OPEN,
             Some(Kind::Choice) => self.size < MAX_OPEN,
             Some(Kind::End) => self.size != 0,
@@ -70,7 +71,7 @@ impl Nesting {
     }
 
     // What is open after a record; `open`: after one that may stand here, where the three numbers are those of a list of open records.
-    #[tactic(auto, unfolding(crate::specs::Nestings::nesting_after, crate::specs::Nestings::nesting_after_as), using(crate::proofs::Openings::after_is))]
+    #[tactic(auto, unfolding(crate::specs::Nestings::nesting_after, crate::specs::Nestings::nesting_after_as))]
     pub fn after(self, kind: u8) -> Nesting
         ensures numbers { result ≡ nesting_after self kind }
         ensures open { (os us : List Open) → self ≡ nesting_of os → open_after_kind os kind ≡ some us → result ≡ nesting_of us }
@@ -128,13 +129,14 @@ pub fn accept_record(
     ensures records { (os : List Open) (k : M.Kind) → here ≡ nesting_of os → kind_of kind ≡ some k → length body.now ≡ body_length k →
         refusable result ≡ accepted_of (accept at os (decode_record k body.now)) }
 {
-    if !fields_in_range(kind, body, here.depth) {
+    let known = Kind::of(kind);
+    if !fields_in_range(known, body, here.depth) {
         return Err(Refusal {
             kind: RefusalKind::FieldOutOfRange,
             offset: at,
         });
     }
-    if !here.allows(kind) {
+    if !here.allows(known) {
         return Err(Refusal {
             kind: RefusalKind::Misplaced,
             offset: at,
