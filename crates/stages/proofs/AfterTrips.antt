@@ -1,4 +1,4 @@
--- What follows a trip, as the state's numbers and as the definition say it: a further trip, one with the choices found unsettled, or the loop is left.
+-- What follows a trip, as the code's state and as the definition say it: a further trip, one with the choices found unsettled, or the loop is left.
 use mathlib.Core.Bool.{Bool, cond, false, not, true, true≢false, ◌&&◌, ◌||◌}
 use mathlib.Core.Logic.{◌⊎◌, inl, inr}
 use mathlib.Core.Path.{ap, refl, sym, ◌∙◌, ◌≡◌}
@@ -7,12 +7,13 @@ use native.Mathlib.Decide.{dec_le}
 use native.Mathlib.Omega.{arith}
 use lib.Dec.{leb, ltb}
 use borrow.Author.Tests.{le-leb, le-ltb, lt-leb, lt-ltb}
+use Rattle.std.proofs.Math.Bool.{and-false}
 use Rattle.trips.specs.Trips.{visited_by}
 use Rattle.passing.specs.Pass.{AfterTrip, further_trip, loop_left, unsettled_trip}
 use Rattle.stages.proofs.Steps.{limit_for}
 
 -- The trip with the counter j of a loop that makes n trips, of the height h; whether it is closed, whether it is ranked, and whether its choices are
--- settled, by the state's numbers and by the definition.
+-- settled, by the code's state and by the definition.
 module _ (is_closed is_ranked found settled : Bool) (n h j : ℕ) where
   -- each trip before is kept: where this trip is open, with this trip, and where the next one is open
   abbrev pub each_before : Bool
@@ -24,7 +25,7 @@ module _ (is_closed is_ranked found settled : Bool) (n h j : ℕ) where
   abbrev pub each_after : Bool
   each_after = is_closed || (is_ranked && leb (suc j) h)
 
-  -- by the state's numbers
+  -- by the code's state
   abbrev pub after_trip : AfterTrip
   after_trip = cond (ltb (suc j) (visited_by (limit_for each_before h) n)) further_trip (cond (is_ranked && (ltb (suc j) n && not found)) unsettled_trip loop_left)
 
@@ -50,10 +51,6 @@ module _ (is_closed is_ranked found settled : Bool) (n h j : ℕ) where
   pub record Left : Type 0 where
     pub defined : is_further ≡ false
     pub made : after_trip ≡ loop_left
-
-none_both : (x : Bool) → x && false ≡ false
-none_both true = refl
-none_both false = refl
 
 abbrev pub Outcome : (is_closed is_ranked found settled : Bool) (n h j : ℕ) → Type 0
 Outcome is_closed is_ranked found settled n h j =
@@ -129,7 +126,7 @@ after-trip false true found settled n h j open-so agrees = by_first (dec_le j h)
         inr (inr (record {
           defined = (λ i. ltb (suc j) (cond (w i && e i) (min n (suc h)) n)) ∙ yet;
           made = (λ i. cond (ltb (suc j) (visited_by (limit_for (w i) h) n)) further_trip (cond (ltb (suc j) n && not (so i)) unsettled_trip loop_left))
-              ∙ (λ i. cond (yet i) further_trip (cond (none_both (ltb (suc j) n) i) unsettled_trip loop_left));
+              ∙ (λ i. cond (yet i) further_trip (cond (and-false (ltb (suc j) n) i) unsettled_trip loop_left));
         }))
     first small false e (no last) (yes more) =
         let w = le-leb j h small in

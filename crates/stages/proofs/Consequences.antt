@@ -1,5 +1,5 @@
 -- What the parts of the stages' laws come to; drawn from these parts alone, so that a weaker part breaks a theorem.
-use mathlib.Core.List.{List, [], ◌∷◌}
+use mathlib.Core.List.{List, []}
 use mathlib.Core.Path.{ap, sym, ◌∙◌, ◌≡◌}
 use mathlib.Core.Logic.{inl, inr, ◌⊎◌}
 use Prim.Native.Nat.{◌+◌, ◌-◌, ◌<◌, min, suc, zero, ℕ, ◌≤◌}
@@ -12,14 +12,15 @@ use Rattle.meaning.specs.Record.{Record}
 use Rattle.meaning.specs.Stage as Meaning
 use Rattle.meaning.specs.Limits.{figure_limit}
 use Rattle.meaning.proofs.Consequences.{Smallest}
-use Rattle.state.specs.States.{StateParts, blank_state}
+use Rattle.state.specs.declared.State.{State}
+use Rattle.state.specs.States.{blank_state}
 use Rattle.state.specs.Sums.{visits_of}
 use Rattle.stages.specs.Laws.{StageLaws, defined_visits, end_state}
 use Rattle.stages.specs.Next.{next_state, states_after, visit_count, visits_begun_by}
-use Rattle.stages.specs.Represent.{open_of, struct_of}
+use Rattle.stages.specs.Represent.{open_of, struct_of, sums_of}
 
 module _ {sheet : List ℕ} {ps : List ℤ} {rs : List Record} (laws : StageLaws sheet ps rs) where
-  abbrev after : ℕ → StateParts
+  abbrev after : ℕ → State
   after n = states_after sheet ps n
 
   -- the definition's state after n stages
@@ -34,15 +35,15 @@ module _ {sheet : List ℕ} {ps : List ℤ} {rs : List Record} (laws : StageLaws
   -- every part of the state is what the definition's state says
   pub stands_at : (n : ℕ) → (after n).at ≡ length rs - length (model n).remaining
   unfolding struct_of
-  stands_at n = ap (λ (s : StateParts). s.at) (laws.in_step n)
+  stands_at n = ap (λ (s : State). s.at) (laws.in_step n)
 
-  pub sums-are : (n : ℕ) → (after n).sums ≡ (model n).current.least ∷ (model n).current.most ∷ (model n).visits ∷ []
+  pub sums-are : (n : ℕ) → (after n).sums ≡ sums_of (model n).current (model n).visits
   unfolding struct_of
-  sums-are n = ap (λ (s : StateParts). s.sums) (laws.in_step n)
+  sums-are n = ap (λ (s : State). s.sums) (laws.in_step n)
 
-  pub open-are : (n : ℕ) → (after n).parts ≡ open_of ps (model n).frames (model n).arms
+  pub open-are : (n : ℕ) → (after n).opened ≡ open_of ps (model n).frames (model n).arms
   unfolding struct_of
-  open-are n = ap (λ (s : StateParts). s.parts) (laws.in_step n)
+  open-are n = ap (λ (s : State). s.opened) (laws.in_step n)
 
   -- of the first n stages, min(n, visits of the definition) began a visit, those of the definition's stages as many
   begun-exactly : (n : ℕ) → visits_begun_by sheet ps n ≡ min n (defined_visits ps rs)
@@ -81,7 +82,7 @@ module _ {sheet : List ℕ} {ps : List ℤ} {rs : List Record} (laws : StageLaws
   pub first-to-end : ¬ (rs ≡ []) → Smallest (λ n. (after n).at ≡ length rs) (suc (defined_visits ps rs))
   unfolding end_state blank_state
   first-to-end some-record = record {
-    holds = ap (λ (s : StateParts). s.at) laws.reached;
+    holds = ap (λ (s : State). s.at) laws.reached;
     below = λ n e. elim (dec_le n (defined_visits ps rs)) [ yes h ↦ absurd (some-record (laws.none_before n h e).1) | no h ↦ omega arith ];
   }
 

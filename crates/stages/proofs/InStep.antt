@@ -1,4 +1,4 @@
--- A stage of the state's numbers is a stage of the definition, from every state that adds up and is in its place.
+-- A stage of the code is a stage of the definition, from every state that adds up and is in its place.
 use mathlib.Core.Bool.{Bool, cond, false, true}
 use mathlib.Core.List.{List, [], ◌∷◌}
 use mathlib.Core.Path.{ap, ap₂, refl, subst, sym, ◌∙◌, ◌≡◌}
@@ -16,8 +16,9 @@ use Rattle.meaning.specs.Record.{Record, choice_record, end_record, kind, loop_d
 use Rattle.meaning.specs.Limits.{depth_limit, record_limit}
 use Rattle.meaning.proofs.Passes.{PassDoes, pass-does, stage-at-end, stage-unrolls}
 use Rattle.meaning.proofs.AddingUp.{StepAddsUp, adds-up-pass}
-use Rattle.layout.specs.Rows.{Role, choice_role, end_role, loop_role, next_arm_role, depth_at, opener_at, role_at, role_number, role_of, role_of_kind, straight_role}
-use Rattle.state.specs.States.{StateParts}
+use Rattle.layout.specs.declared.rows.Role.{Role}
+use Rattle.layout.specs.Rows.{choice_role, end_role, loop_role, next_arm_role, depth_at, opener_at, role_at, role_number, role_of, role_of_kind, straight_role}
+use Rattle.state.specs.declared.State.{State}
 use Rattle.evaluator.specs.Machine.{Following, body_evaluator, following_at, loop_evaluator, nothing, of_choice, of_loop, pass_following, stage_on, unless_begun}
 use Rattle.passing.specs.Pass.{Passage, goes_on, is_of_loop, pass_choice, pass_loop, pass_straight_work}
 use Rattle.stages.specs.Represent.{counter_numbers, struct_of}
@@ -31,7 +32,7 @@ use Rattle.stages.proofs.PassedRecords.{passed-choice, passed-choice-end, passed
 use Rattle.stages.proofs.PassedTrips.{passed-loop-end}
 
 module _ {ps : List ℤ} {rs : List Record} {rows differences limits : List ℕ} (known : KnownPlan ps rs rows differences limits) where
-  abbrev struct : Meaning.State → StateParts
+  abbrev struct : Meaning.State → State
   struct s = struct_of ps rs s
 
   abbrev passage : Step → Passage
@@ -53,13 +54,13 @@ module _ {ps : List ℤ} {rs : List Record} {rows differences limits : List ℕ}
 
   -- ---- a whole stage
 
-  abbrev body : ℕ → ℕ → StateParts → Passage
+  abbrev body : ℕ → ℕ → State → Passage
   body left depth s = body_evaluator rows differences limits (length rs) left depth s
 
   abbrev body_at : ℕ → Meaning.State → Passage
   body_at left t = body left (open_loops t.frames) (struct t)
 
-  abbrev follow : Following → ℕ → ℕ → StateParts → Passage
+  abbrev follow : Following → ℕ → ℕ → State → Passage
   follow following left depth s = pass_following rows differences limits following (λ e u. body left e u) depth s
 
   -- from fewer records, `left` of them at most that are no straight work
@@ -94,7 +95,7 @@ module _ {ps : List ℤ} {rs : List Record} {rows differences limits : List ℕ}
     body-goes : (left : ℕ) (b : Bool) → is_of_loop rows at ≡ b → body_at (suc left) here ≡ follow (cond b of_loop of_choice) left (open_loops fs) (struct here)
     unfolding body_evaluator
     body-goes left b e =
-        ap (λ (t : StateParts). follow (following_at rows (length rs) t.at) left (open_loops fs) t) works-none
+        ap (λ (t : State). follow (following_at rows (length rs) t.at) left (open_loops fs) t) works-none
         ∙ ap (λ (x : Following). follow x left (open_loops fs) (struct here)) (follows b e)
 
     -- a loop or a loop's end
@@ -118,7 +119,7 @@ module _ {ps : List ℤ} {rs : List Record} {rows differences limits : List ℕ}
     unfolding pass_following and_on
     choice-in-step left few further is_choice t e depth passed =
         let next = regular-next here t g e in
-        body-goes left false is_choice ∙ ap₂ (λ (d : ℕ) (s : StateParts). body left d s) depth passed ∙ further t (omega (arith, next.1)) (omega (arith, next.1)) next.0
+        body-goes left false is_choice ∙ ap₂ (λ (d : ℕ) (s : State). body left d s) depth passed ∙ further t (omega (arith, next.1)) (omega (arith, next.1)) next.0
         ∙ ap passage (sym (stage-unrolls ps here ∙ ap (and_on (λ u. Meaning.stage ps u)) e))
 
   -- what stands at a record: a loop or its end
@@ -153,14 +154,14 @@ module _ {ps : List ℤ} {rs : List Record} {rows differences limits : List ℕ}
     unfolding body_evaluator pass_following following_at
     end-in-step zero depth = ap (goes_on depth) stays
     end-in-step (suc left) depth =
-        ap (λ (t : StateParts). follow (following_at rows (length rs) t.at) left depth t) stays
+        ap (λ (t : State). follow (following_at rows (length rs) t.at) left depth t) stays
         ∙ ap (λ (b : Bool). follow (cond b (cond (is_of_loop rows (struct ended).at) of_loop of_choice) nothing) left depth (struct ended)) past
 
   -- straight work is passed with what follows
-  same-works : (left depth : ℕ) (s t : StateParts) → pass_straight_work rows (length rs) s ≡ pass_straight_work rows (length rs) t → body left depth s ≡ body left depth t
+  same-works : (left depth : ℕ) (s t : State) → pass_straight_work rows (length rs) s ≡ pass_straight_work rows (length rs) t → body left depth s ≡ body left depth t
   unfolding body_evaluator
   same-works zero depth s t e = ap (goes_on depth) e
-  same-works (suc left) depth s t e = ap (λ (x : StateParts). follow (following_at rows (length rs) x.at) left depth x) e
+  same-works (suc left) depth s t e = ap (λ (x : State). follow (following_at rows (length rs) x.at) left depth x) e
 
   -- a stage from where a record stands
   record-in-step : (left : ℕ) (r : Record) (ys : List Record) (c : Bounds) (fs : List Frame) (a : KeptArms) (v : ℕ) → InStepFrom (length ys) (suc left) → InStepFrom (length ys) left →
@@ -212,7 +213,7 @@ module _ {ps : List ℤ} {rs : List Record} {rows differences limits : List ℕ}
       omega (arith, loops-count fs, frames-shallow known fs h.numbers h.framed) in
       (row_here known fs h).depth_is ∙ all
 
-  -- a stage of the state's numbers is a stage of the definition
+  -- a stage of the code is a stage of the definition
   pub stage-in-step : (s : Meaning.State) → Regular known s → stage_of (stage_on rows differences limits (length rs) (struct s)) ≡ stage_of (passage (Meaning.stage ps s))
   unfolding stage_on
   stage-in-step s g =

@@ -11,6 +11,8 @@ use lib.Dec.{T, eqb, leb, ltb, leb→le, leb-suc-suc}
 use borrow.Author.Tests.{lt-ltb, ne_eqb}
 use lib.ListN.{get_or, length, length-append}
 use lib.IntN.{ℤ}
+use Rattle.std.proofs.Math.Bool.{and-false}
+use Rattle.std.proofs.lemmas.Bool.{and_parts}
 use Rattle.meaning.specs.Time.{Bounds, inner_indexes}
 use Rattle.meaning.specs.Record.{Loop, Record, choice_record, end_record, kind, loop_depth, loop_record}
 use Rattle.meaning.specs.Limits.{depth_limit, record_limit}
@@ -33,29 +35,20 @@ use Rattle.nest.specs.Rows.{innermost}
 use Rattle.planner.specs.Closing.{limit_of}
 use Rattle.ranking.specs.Settled.{direct_arms}
 use Rattle.ranking.proofs.ArmSizes.{choices-times-length}
-use Rattle.state.specs.Open.{OpenParts, kept_arms_limit, counter_at}
+use Rattle.state.specs.declared.open.Open.{Open}
+use Rattle.state.specs.Open.{kept_arms_limit, counter_at}
 use Rattle.state.proofs.Innermost.{all_counters, counter-top}
 use Rattle.trips.specs.Trips.{limit_within}
 use Rattle.passing.specs.Pass.{keeps_arms_at}
-use Rattle.stages.specs.Represent.{arm_total, counter_numbers}
+use Rattle.ranking.specs.Settled.{trips_arms}
+use Rattle.stages.specs.Represent.{counter_numbers}
 use Rattle.stages.specs.Laws.{defined_visits}
 use Rattle.stages.proofs.Steps.{open_loops}
-use Rattle.stages.proofs.ArmNumbers.{total-append}
+use Rattle.stages.proofs.ArmsKept.{arm_total, total-append}
 use Rattle.stages.proofs.Places.{Framed, Stands, opens_of}
 use Rattle.stages.proofs.Affine.{enclosing_of}
 use Rattle.stages.proofs.PlanLaws.{KnownPlan, limit_is, loops-count, ranked-is, ranked-not-closed, row_is}
 use Rattle.stages.proofs.Standing.{body-shallow, loop-room, opener-found, whole}
-
--- ---- tests one after another
-
-none_both : (a : Bool) → a && false ≡ false
-none_both true = refl
-none_both false = refl
-
-both_hold : (a b : Bool) → a && b ≡ true → (a ≡ true) × (b ≡ true)
-both_hold true true e = (refl, refl)
-both_hold true false e = absurd (true≢false (sym e))
-both_hold false b e = absurd (true≢false (sym e))
 
 -- ---- how many arms
 
@@ -65,14 +58,14 @@ total-more [] a = omega arith
 total-more (x ∷ xs) a = omega (arith, total-more xs (kept_arms a.passed_trips (a.open_trip ++ (x ∷ []))), one x a)
   where
     one : (x : Bounds) (a : KeptArms) → arm_total (trips_kept (kept_arms a.passed_trips (a.open_trip ++ (x ∷ [])))) ≡ arm_total (trips_kept a) + 1
-    one x a = unfold trips_kept arm_total in
-        omega (arith, total-append a.passed_trips ((a.open_trip ++ (x ∷ [])) ∷ []), total-append a.passed_trips (a.open_trip ∷ []), length-append a.open_trip (x ∷ []))
+    one x a = unfold trips_kept in
+        omega (arith, total-append a.passed_trips (a.open_trip ++ (x ∷ [])), total-append a.passed_trips a.open_trip, length-append a.open_trip (x ∷ []))
 
 -- of n trips, each with m arms
 pub first-total : (n m : ℕ) (f : ℕ → List Bounds) → ((k : ℕ) → length (f k) ≡ m) → arm_total (first_sums n f) ≡ n * m
-unfolding arm_total first_sums
+unfolding trips_arms first_sums
 first-total zero m f each = omega arith
-first-total (suc n) m f each = omega (arith, total-append (first_sums n f) (f n ∷ []), first-total n m f each, each n)
+first-total (suc n) m f each = omega (arith, total-append (first_sums n f) (f n), first-total n m f each, each n)
 
 module _ {ps : List ℤ} {rs : List Record} {rows differences limits : List ℕ} (known : KnownPlan ps rs rows differences limits) where
   -- ---- where arms are kept
@@ -92,26 +85,26 @@ module _ {ps : List ℤ} {rs : List Record} {rows differences limits : List ℕ}
 
   -- the choice stands where fs are open
   pub keeps-arms : (q : ℕ) (following : List Record) (fs : List Frame) (ns : List ℕ) → Stands ps rs choice_record following q (opens_of fs) ns (enclosing_of ps fs) →
-      Framed ps rs fs ns → (parts : OpenParts) → parts.counters ≡ all_counters (counter_numbers fs) → keeps_arms_at rows limits q parts ≡ keeps_arms ps fs
+      Framed ps rs fs ns → (opened : Open) → opened.counters ≡ all_counters (counter_numbers fs) → keeps_arms_at rows limits q opened ≡ keeps_arms ps fs
   unfolding keeps_arms_at keeps_arms Framed innermost role_number role_of role_of_kind kind counter_numbers
-  keeps-arms q following [] [] stands framed parts counters =
+  keeps-arms q following [] [] stands framed opened counters =
       let around = (row_is known stands).enclosing_is in
       let o : ℕ = opener_at rows q in
       ap (λ (m : ℕ). ranked_at limits (loop_at rows o) && (not (eqb m 0) && (eqb (role_at rows o) 1
-      && (ltb (depth_at rows o) depth_limit && ltb (counter_at parts (depth_at rows o)) (limit_within limits (loop_at rows o) (depth_at rows o)))))) around
-      ∙ none_both (ranked_at limits (loop_at rows o))
-  keeps-arms q following [] (n ∷ ns) stands framed parts counters = absurd framed
-  keeps-arms q following (loop_frame l body k sums enclosing ∷ fs) [] stands framed parts counters = absurd framed
-  keeps-arms q following (choice_frame passed enclosing ∷ fs) [] stands framed parts counters = absurd framed
-  keeps-arms q following (choice_frame passed enclosing ∷ fs) (m ∷ ns) stands framed parts counters =
+      && (ltb (depth_at rows o) depth_limit && ltb (counter_at opened (depth_at rows o)) (limit_within limits (loop_at rows o) (depth_at rows o)))))) around
+      ∙ and-false (ranked_at limits (loop_at rows o))
+  keeps-arms q following [] (n ∷ ns) stands framed opened counters = absurd framed
+  keeps-arms q following (loop_frame l body k sums enclosing ∷ fs) [] stands framed opened counters = absurd framed
+  keeps-arms q following (choice_frame passed enclosing ∷ fs) [] stands framed opened counters = absurd framed
+  keeps-arms q following (choice_frame passed enclosing ∷ fs) (m ∷ ns) stands framed opened counters =
       let own = framed.1 in
       let around = opener-found known q fs own (row_is known stands).opener_is in
       let role = ap (role_at rows) around ∙ (row_is known own).role_is in
       let o : ℕ = opener_at rows q in
       ap (λ (x : ℕ). ranked_at limits (loop_at rows o) && (not (eqb (enclosing_at rows q) 0) && (eqb x 1
-      && (ltb (depth_at rows o) depth_limit && ltb (counter_at parts (depth_at rows o)) (limit_within limits (loop_at rows o) (depth_at rows o)))))) role
-      ∙ ap (λ (x : Bool). ranked_at limits (loop_at rows o) && x) (none_both (not (eqb (enclosing_at rows q) 0))) ∙ none_both (ranked_at limits (loop_at rows o))
-  keeps-arms q following (loop_frame l body k sums enclosing ∷ fs) (m ∷ ns) stands framed parts counters =
+      && (ltb (depth_at rows o) depth_limit && ltb (counter_at opened (depth_at rows o)) (limit_within limits (loop_at rows o) (depth_at rows o)))))) role
+      ∙ ap (λ (x : Bool). ranked_at limits (loop_at rows o) && x) (and-false (not (eqb (enclosing_at rows q) 0))) ∙ and-false (ranked_at limits (loop_at rows o))
+  keeps-arms q following (loop_frame l body k sums enclosing ∷ fs) (m ∷ ns) stands framed opened counters =
       let own = framed.0 in
       let d : ℕ = open_loops fs in
       let shallow : d < depth_limit = (loop-room known fs own).1 in
@@ -120,13 +113,13 @@ module _ {ps : List ℤ} {rs : List Record} {rows differences limits : List ℕ}
       let role = (row_is known own).role_is in
       let all : min (loop_depth (opens_of fs)) depth_limit ≡ d = omega (arith, loops-count fs) in
       let depth = (row_is known own).depth_is ∙ all in
-      let counter : get_or parts.counters d 0 ≡ k = ap (λ (xs : List ℕ). get_or xs d 0) counters ∙ counter-top (counter_numbers fs) d refl shallow k in
+      let counter : get_or opened.counters d 0 ≡ k = ap (λ (xs : List ℕ). get_or xs d 0) counters ∙ counter-top (counter_numbers fs) d refl shallow k in
       let first = ranked-is known fs own in
       let limit = limit_is known fs own in
       let within = lt-ltb d depth_limit shallow in
       ap (λ (o : ℕ). ranked_at limits (loop_at rows o) && (not (eqb (enclosing_at rows q) 0) && (eqb (role_at rows o) 1
-      && (ltb (depth_at rows o) depth_limit && ltb (counter_at parts (depth_at rows o)) (limit_within limits (loop_at rows o) (depth_at rows o)))))) around
-      ∙ (λ i. first i && (stood i && (eqb (role i) 1 && (ltb (depth i) depth_limit && ltb (counter_at parts (depth i)) (limit_within limits (loop_at rows m) (depth i))))))
+      && (ltb (depth_at rows o) depth_limit && ltb (counter_at opened (depth_at rows o)) (limit_within limits (loop_at rows o) (depth_at rows o)))))) around
+      ∙ (λ i. first i && (stood i && (eqb (role i) 1 && (ltb (depth i) depth_limit && ltb (counter_at opened (depth i)) (limit_within limits (loop_at rows m) (depth i))))))
       ∙ (λ i. ranked ps l (tree body) (ranges_of ps fs) && (within i && ltb (counter i) (limit i)))
       ∙ among_first l (tree body) (ranges_of ps fs) k
 
@@ -175,7 +168,7 @@ module _ {ps : List ℤ} {rs : List Record} {rows differences limits : List ℕ}
   arm-has-room (loop_frame l body k sums enclosing ∷ fs) (m ∷ ns) tail total count xs a framed keeps h some =
       let is = h.body_is ∙ ap (λ rs. records h.block ++ rs) h.tail_is in
       let same : tree body ≡ h.block = ap tree is ∙ tree-before-end h.block (records h.after ++ h.outer_tail) in
-      let both = both_hold (ranked ps l h.block (ranges_of ps fs)) (leb k (height h.block))
+      let both = and_parts (ranked ps l h.block (ranges_of ps fs)) (leb k (height h.block))
       (sym (ap (λ (b : Block). ranked ps l b (ranges_of ps fs) && leb k (height b)) same) ∙ keeps) in
       let small : k ≤ height h.block = leb→le k (height h.block) (subst T (sym both.1) tt) in
       let free = ranked-free ps h.outer_arms (ranges_of ps fs) l h.block h.after (AllWalked ps fs) h.ready in
@@ -196,5 +189,5 @@ module _ {ps : List ℤ} {rs : List Record} {rows differences limits : List ℕ}
       go : Dec (k ≤ height b) → arm_total (trips_kept a) ≤ kept_arms_limit
       go (yes small) =
           omega (arith, ap (λ (x : KeptArms). arm_total (trips_kept x)) arms, first-arms l b (ranges_of ps fs) (indexes_of ps fs) outer k is_ranked free small, few-arms fs stands b following is k small)
-      go (no large) = unfold trips_kept arm_total in
+      go (no large) = unfold trips_kept trips_arms in
           omega (arith, ap (λ (x : KeptArms). arm_total (trips_kept x)) (arms ∙ arms-later ps l b (ranges_of ps fs) (indexes_of ps fs) outer is_ranked k (omega arith)))

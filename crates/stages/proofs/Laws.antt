@@ -29,13 +29,14 @@ use Rattle.layout.specs.Loops.{differences_length, facts_length, limits_length}
 use Rattle.layout.specs.Rows.{rows_length}
 use Rattle.loops.proofs.Sizes.{SmallParameters}
 use Rattle.planner.specs.Plan.{Plan, plan_of, plan_of_records}
-use Rattle.ranking.specs.Settled.{bounds_numbers, trip_numbers}
-use Rattle.state.specs.States.{StateParts, blank_state, first_state}
-use Rattle.state.specs.Open.{filled, part_in, parts_in}
+use Rattle.state.specs.declared.State.{State as Struct}
+use Rattle.state.specs.States.{blank_state, first_state}
+use Rattle.state.specs.Open.{filled}
 use Rattle.state.specs.Sums.{visits_of}
-use Rattle.stages.specs.Next.{NextStage, next_state, parts_of, stage_for, stage_of, states_after, visit_count, visits_begun_by, stage}
+use Rattle.stages.specs.Next.{NextStage, next_state, stage_for, stage_of, states_after, visit_count, visits_begun_by, stage}
 use Rattle.stages.specs.Laws.{StageLaws, end_state, defined_visits}
-use Rattle.stages.specs.Represent.{arm_total, counter_numbers, frame_numbers, kept_arm_numbers, kept_numbers, open_of, struct_of}
+use Rattle.ranking.specs.Settled.{trips_arms}
+use Rattle.stages.specs.Represent.{arms_of, counter_numbers, frames_of, kept_of, open_of, struct_of}
 use Rattle.stages.proofs.PlanLaws.{KnownPlan}
 use Rattle.stages.proofs.Places.{Placed, placed-stages}
 use Rattle.stages.proofs.Standing.{Regular, passage_of}
@@ -132,16 +133,16 @@ module _ (sheet : List ℕ) (ps : List ℤ) (rs : List Record) (small : SmallPar
 
   in_step : (n : ℕ) → states_after sheet ps n ≡ struct_of ps rs (model n)
   unfolding states_after next_state stages
-  in_step zero = unfold first_state blank_state parts_in part_in struct_of open_of Meaning.first_state counter_numbers frame_numbers kept_numbers kept_arm_numbers arm_total trip_numbers bounds_numbers trips_kept filled in
-      ap (λ (m : ℕ). parts_of (blank_state m 0 0 0)) (let z : 0 ≡ length rs - length rs = omega arith in z)
-  in_step (suc n) = ap (λ (s : StateParts). (stage sheet ps s).after) (in_step n) ∙ ap (λ (p : NextStage). p.after) (stage_is n) ∙ next-after (Meaning.stage ps (model n))
+  in_step zero = unfold first_state blank_state struct_of open_of Meaning.first_state counter_numbers frames_of kept_of arms_of trips_arms trips_kept filled in
+      ap (λ (m : ℕ). blank_state m 0 0 0) (let z : 0 ≡ length rs - length rs = omega arith in z)
+  in_step (suc n) = ap (λ (s : Struct). (stage sheet ps s).after) (in_step n) ∙ ap (λ (p : NextStage). p.after) (stage_is n) ∙ next-after (Meaning.stage ps (model n))
 
   stage_at : (n : ℕ) → stage sheet ps (states_after sheet ps n) ≡ next (Meaning.stage ps (model n))
   stage_at n = ap (stage sheet ps) (in_step n) ∙ stage_is n
 
   visits-same : (n : ℕ) → visits_of (states_after sheet ps n).sums ≡ (model n).visits
   unfolding struct_of
-  visits-same n = ap (λ (s : StateParts). visits_of s.sums) (in_step n)
+  visits-same n = ap (λ (s : Struct). visits_of s.sums) (in_step n)
 
   begun-alike : (n : ℕ) → visits_begun_by sheet ps n ≡ visits_begun ps n (Meaning.first_state rs)
   unfolding visits_begun_by visits_begun
@@ -150,10 +151,10 @@ module _ (sheet : List ℕ) (ps : List ℤ) (rs : List Record) (small : SmallPar
 
   -- the state at the sheet's end
   end_is : struct_of ps rs (state [] (time ps (tree rs) []) [] (defined_visits ps rs)) ≡ end_state ps rs
-  unfolding struct_of open_of end_state blank_state parts_in part_in counter_numbers frame_numbers kept_numbers kept_arm_numbers arm_total trip_numbers bounds_numbers trips_kept filled
+  unfolding struct_of open_of end_state blank_state counter_numbers frames_of kept_of arms_of trips_arms trips_kept filled
   end_is =
       let whole : Bounds = time ps (tree rs) [] in
-      ap (λ (m : ℕ). parts_of (blank_state m whole.least whole.most (defined_visits ps rs))) (let z : length rs - 0 ≡ length rs = omega arith in z)
+      ap (λ (m : ℕ). blank_state m whole.least whole.most (defined_visits ps rs)) (let z : length rs - 0 ≡ length rs = omega arith in z)
 
   at-end : (n : ℕ) → defined_visits ps rs < n → states_after sheet ps n ≡ end_state ps rs
   at-end n h = in_step n ∙ ap (struct_of ps rs) (reach.reached n h) ∙ end_is
@@ -167,7 +168,7 @@ module _ (sheet : List ℕ) (ps : List ℤ) (rs : List Record) (small : SmallPar
       place = (regular n).place
 
       at : length rs - length (model n).remaining ≡ length rs
-      at = sym (ap (λ (s : StateParts). s.at) (in_step n)) ∙ h
+      at = sym (ap (λ (s : Struct). s.at) (in_step n)) ∙ h
 
       fits : length (model n).remaining ≤ length rs
       fits = omega (arith, ap (λ (xs : List Record). length xs) place.split, length-append place.before (model n).remaining)

@@ -1,4 +1,4 @@
-pub mod ArmNumbers
+pub mod ArmsKept
 pub mod Affine
 pub mod Places
 pub mod Steps
@@ -13,6 +13,6 @@ pub mod PassedRecords
 pub mod PassedTrips
 pub mod InStep
 pub mod Laws
-pub mod Planned
 pub mod Examples
 pub mod Consequences
+pub mod Planned

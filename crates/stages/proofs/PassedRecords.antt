@@ -1,4 +1,4 @@
--- One record passed by the state's numbers is one passed by the definition; a loop's end is in PassedTrips.
+-- One record passed by the code's steps is one passed by the definition; a loop's end is in PassedTrips.
 use mathlib.Core.List.{◌++◌, List, [], append-nil, ◌∷◌}
 use mathlib.Core.Bool.{true}
 use mathlib.Core.Option.{Option, none, some}
@@ -12,17 +12,18 @@ use Rattle.meaning.specs.Time.{bounds, entry_cost, exactly, trips, ◌⊕◌, Bo
 use Rattle.meaning.specs.Stage.{Frame, KeptArms, add_arm, after_end, choice_frame, indexes_of, keep_arm, keeps_arms, loop_frame, pass, pass_record, state_keeping, trips_kept}
 use Rattle.meaning.specs.Stage as Meaning
 use Rattle.meaning.specs.Record.{Loop, Record, choice_record, end_record, kind, loop_record, next_arm_record, work_record}
-use Rattle.meaning.specs.Limits.{open_limit}
+use Rattle.meaning.specs.Limits.{depth_limit, open_limit}
 use Rattle.meaning.proofs.KeptTrips.{keep_all-append}
 use Rattle.meaning.proofs.RankedArms.{choices_times}
 use Rattle.meaning.proofs.Levels.{AddsUp, Total, closer-level, frames-inside, further_arms, same_total}
 use Rattle.meaning.proofs.AddingUp.{StepAddsUp, adds-up-pass}
 use Rattle.layout.specs.Rows.{after_end_at, entry_cost_at, first_cost, frame_at, loop_at, loop_role, role_at, role_number, role_of, role_of_kind, second_cost, skip_cost}
-use Rattle.state.specs.States.{StateParts}
-use Rattle.state.specs.Open.{kept_arms_limit, counter_part, filled, part_length}
+use Rattle.state.specs.declared.State.{State}
+use Rattle.state.specs.Open.{kept_arms_limit, filled}
 use Rattle.trips.specs.Trips.{trips_at}
 use Rattle.passing.specs.Pass.{Passage, begins, goes_on, keeps_arms_at, pass_choice, pass_loop, pass_straight_work}
-use Rattle.stages.specs.Represent.{arm_total, counter_numbers, open_of, struct_of}
+use Rattle.stages.specs.Represent.{counter_numbers, open_of, struct_of}
+use Rattle.stages.proofs.ArmsKept.{arm_total}
 use Rattle.stages.specs.Laws.{defined_visits}
 use Rattle.stages.proofs.Steps.{Fits, choice-left, choice-opens, loop-opens, loop-skipped, next-arm-opens, one-loop-more, open_loops, standing, work-passed}
 use Rattle.stages.proofs.PlanLaws.{KnownPlan, row_is, trips-are}
@@ -32,7 +33,7 @@ use Rattle.stages.proofs.KeptChoices.{arm-has-room, keeps-arms}
 use Rattle.stages.proofs.Places.{PlacedAt}
 
 module _ {ps : List ℤ} {rs : List Record} {rows differences limits : List ℕ} (known : KnownPlan ps rs rows differences limits) where
-  abbrev struct : Meaning.State → StateParts
+  abbrev struct : Meaning.State → State
   struct s = struct_of ps rs s
 
   abbrev passed : List Frame → Meaning.State → Passage
@@ -154,7 +155,7 @@ module _ {ps : List ℤ} {rs : List Record} {rows differences limits : List ℕ}
     trips-entered =
         let h = g.place in
         let inside = frames-inside ps (whole known) (defined_visits ps rs) fs g.adds.tail _ _ _ g.adds.level in
-        ap (λ (ns : List ℕ). trips_at differences (filled (part_length counter_part) ns) (loop_at rows at)) (sym (append-nil (counter_numbers fs)))
+        ap (λ (ns : List ℕ). trips_at differences (filled 0 depth_limit ns) (loop_at rows at)) (sym (append-nil (counter_numbers fs)))
         ∙ trips-are known fs (stands_here known fs h) inside [] (loop-moves known fs h)
 
     cost-of : (n : ℕ) → entry_cost_at rows at n ≡ entry_cost l n

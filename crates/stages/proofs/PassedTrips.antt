@@ -1,15 +1,16 @@
--- The end of a loop's trip, passed by the state's numbers, is its end passed by the definition.
+-- The end of a loop's trip, passed by the code's steps, is its end passed by the definition.
 use mathlib.Core.List.{◌++◌, List, [], map, map-append, ◌∷◌}
 use mathlib.Core.Bool.{Bool, cond, false, true, true≢false, ◌&&◌, ◌||◌}
 use mathlib.Core.Path.{ap, ap₂, refl, subst, sym, ◌∙◌, ◌≡◌}
 use mathlib.Core.Logic.{◌⊎◌, inl, inr}
-use Prim.Native.Nat.{◌*◌, ◌+◌, ◌-◌, ◌/◌, ◌<◌, ◌^◌, min, suc, zero, ℕ, ◌≤◌}
+use Prim.Native.Nat.{◌+◌, ◌-◌, ◌/◌, ◌<◌, ◌^◌, min, suc, zero, ℕ, ◌≤◌}
 use native.Mathlib.Decide.{dec_le}
 use native.Mathlib.Omega.{arith}
 use borrow.Author.Tests.{le-leb, le-ltb, lt-ltb, ltb-true}
 use lib.Dec.{T, leb, leb→le, ltb}
-use lib.ListN.{get_or, length, length-append, take}
+use lib.ListN.{length, length-append, length-map, replicate, take}
 use lib.IntN.{pos, ℤ}
+use Rattle.std.proofs.lemmas.Bool.{and_parts, or_cases}
 use Rattle.whole.specs.Newton.{newton_sum}
 use Rattle.meaning.specs.Time.{exactly, inner_indexes, sum_over, time, trips, ◌⊕◌, Bounds}
 use Rattle.meaning.specs.Stage.{Frame, KeptArms, arms_left, further, indexes_of, kept_arms, loop_frame, next_arms, next_sums, no_arms, pass, pass_record, ranges_of, state_keeping, summing, trips_kept, trips_sum}
@@ -37,19 +38,18 @@ use Rattle.meaning.proofs.AddingUp.{StepAddsUp, ranked-free}
 use Rattle.layout.specs.Rows.{end_role, loop_at, role_at, role_number, role_of, role_of_kind, second_at, second_cost}
 use Rattle.layout.specs.Loops.{ranked_at}
 use Rattle.ranking.specs.Body.{settled_at}
-use Rattle.ranking.specs.Settled.{bounds_numbers}
-use Rattle.ranking.proofs.FlatLaws.{bounds-numbers-length}
-use Rattle.state.specs.Open.{kept_arms_limit, filled, kept_part, part_length}
+use Rattle.state.specs.declared.bounds.Bounds as declared
+use Rattle.state.specs.Bounds.{bounds, no_bounds}
+use Rattle.state.specs.Open.{kept_arms_limit, kept_limit, filled}
 use Rattle.state.specs.Kept.{first_trips, kept_from, kept_room, trips_sum as state_sum}
-use Rattle.state.specs.Sums.{least_column, most_column}
-use Rattle.state.specs.Arms.{arm_count_in, arm_numbers_in}
-use Rattle.state.proofs.ArmLaws.{all_arms}
-use Rattle.state.proofs.Innermost.{all_counters, all_kept, kept_top, zeros}
+use Rattle.state.specs.Arms.{arm_count_in}
+use Rattle.state.proofs.Innermost.{all_counters, all_kept, kept_top}
 use Rattle.trips.specs.Trips.{limit_now, trips_at}
 use Rattle.passing.specs.Pass.{Passage, begins, goes_on, goes_unsettled, pass_loop}
-use Rattle.stages.specs.Represent.{arm_total, counter_numbers, keeps_each, kept_arm_numbers, kept_numbers, struct_of}
+use Rattle.ranking.specs.Settled.{bounds_of}
+use Rattle.stages.specs.Represent.{arms_of, counter_numbers, each_of, keeps_each, kept_of, struct_of}
 use Rattle.stages.specs.Laws.{defined_visits}
-use Rattle.stages.proofs.ArmNumbers.{next-trip-numbers}
+use Rattle.stages.proofs.ArmsKept.{arm_total, next-trip-arms}
 use Rattle.stages.proofs.Steps.{Fits, TripsCome, limit_for, loop-left, next-trip-opens, one-loop-more, open_loops, unsettled-trip-opens}
 use Rattle.stages.proofs.PlanLaws.{KnownPlan, RowIs, limit-now-is, ranked-is, ranked-not-closed, row_is, trips-are}
 use Rattle.stages.proofs.Standing.{Opener, Regular, body-shallow, current-fits, frame-of, kept-length, loop-opener, loop-room}
@@ -68,10 +68,7 @@ first_count (suc n) f = let i = first_count n f in omega (arith, length-append (
 
 -- one of two tests, or two together
 one_of : (a b c : Bool) → a || (b && c) ≡ true → (a ≡ true) ⊎ ((b ≡ true) × (c ≡ true))
-one_of true b c e = inl refl
-one_of false true true e = inr (refl, refl)
-one_of false true false e = absurd (true≢false (sym e))
-one_of false false c e = absurd (true≢false (sym e))
+one_of a b c e = elim (or_cases a (b && c) e) [ inl x ↦ inl x | inr y ↦ inr (and_parts b c y) ]
 
 module _ {ps : List ℤ} {rs : List Record} {rows differences limits : List ℕ} (known : KnownPlan ps rs rows differences limits)
     (ys : List Record) (l : Loop) (body : List Record) (j : ℕ) (sums : List Bounds) (enclosing c : Bounds) (fs : List Frame) (a : KeptArms) (v : ℕ)
@@ -233,37 +230,35 @@ module _ {ps : List ℤ} {rs : List Record} {rows differences limits : List ℕ}
   rooms : (length fs < open_limit) × (d < depth_limit)
   rooms = loop-room known fs opener.stands
 
-  kept-now : length (kept_numbers ps fs) ≡ kept_from d
+  kept-now : length (kept_of ps fs) ≡ kept_from d
   kept-now = kept-length ps fs (omega (arith, rooms.1))
 
-  abbrev kept_trips : List ℕ
-  kept_trips = all_kept (kept_numbers ps fs ++ filled (kept_room d) (bounds_numbers sums))
+  abbrev kept_trips : List declared.Bounds
+  kept_trips = all_kept (kept_of ps fs ++ filled no_bounds (kept_room d) (each_of sums))
 
   -- the sum of m trips from those kept and the open one, where Newton's sum of these is exact
   module _ (e : each ≡ true) (m : ℕ) (sum : Bounds) (exact : FiguresExact m (first_sums (suc j) f) sum) (fits : Fits sum) where
     counted : length sums ≡ j
     counted = ap (λ (xs : List Bounds). length xs) (each-kept e) ∙ first_count j f
 
-    fitting : 2 * j ≤ kept_room d
+    fitting : j ≤ kept_room d
     fitting = omega (arith, each-low e, shallow)
 
-    figure-sum : (figure : Bounds → ℕ) (column : ℕ) → ((x : Bounds) (ns : List ℕ) → get_or (x.least ∷ x.most ∷ ns) column 0 ≡ figure x) →
-        newton_sum m (map (λ x. pos (figure x)) (first_sums (suc j) f)) ≡ pos (figure sum) → figure sum < 2 ^ 64 →
-        state_sum m j (first_trips kept_trips d column j (figure trip)) ≡ figure sum
+    figure-sum : (figure : declared.Bounds → ℕ) → newton_sum m (map (λ x. pos (figure (bounds_of x))) (first_sums (suc j) f)) ≡ pos (figure (bounds_of sum)) →
+        figure (bounds_of sum) < 2 ^ 64 → state_sum m j (map figure (first_trips kept_trips d j (bounds_of trip))) ≡ figure (bounds_of sum)
     unfolding first_sums
-    figure-sum figure column at-column newton small =
-        let size = bounds-numbers-length sums in
+    figure-sum figure newton small =
+        let size = length-map sums bounds_of in
         let low = each-low e in
-        let tail : List ℕ = zeros (part_length kept_part - kept_from d - length (bounds_numbers sums)) in
-        let form : kept_trips ≡ kept_numbers ps fs ++ (bounds_numbers sums ++ tail) =
-        kept_top (kept_numbers ps fs) d kept-now rooms.1 (bounds_numbers sums) (omega (arith, counted, fitting)) in
-        let values : take (suc j) (map pos (first_trips kept_trips d column j (figure trip))) ≡ map (λ x. pos (figure x)) (first_sums (suc j) f) =
-        (λ i. take (suc (sym counted i)) (map pos (first_trips (form i) d column (sym counted i) (figure trip))))
-        ∙ first-trips figure column at-column (kept_numbers ps fs) d kept-now sums tail (figure trip) (omega (arith, shallow, counted))
-        ∙ ap₂ (λ (xs : List Bounds) (x : Bounds). map (λ y. pos (figure y)) xs ++ (pos (figure x) ∷ [])) (each-kept e) trip-is
-        ∙ sym (map-append (λ x. pos (figure x)) (first_sums j f) (f j ∷ [])) in
-        sum-exact figure m j (first_sums (suc j) f) sum newton (omega (arith, shallow)) (first_trips kept_trips d column j (figure trip))
-        (first_trips-length kept_trips d column j (figure trip)) values small
+        let tail : List declared.Bounds = replicate (kept_limit - kept_from d - length (each_of sums)) no_bounds in
+        let form : kept_trips ≡ kept_of ps fs ++ (each_of sums ++ tail) = kept_top (kept_of ps fs) d kept-now rooms.1 (each_of sums) (omega (arith, counted, fitting)) in
+        let values : take (suc j) (map pos (map figure (first_trips kept_trips d j (bounds_of trip)))) ≡ map (λ x. pos (figure (bounds_of x))) (first_sums (suc j) f) =
+        (λ i. take (suc (sym counted i)) (map pos (map figure (first_trips (form i) d (sym counted i) (bounds_of trip)))))
+        ∙ first-trips figure (kept_of ps fs) d kept-now sums tail (bounds_of trip) (omega (arith, shallow, counted))
+        ∙ ap₂ (λ (xs : List Bounds) (x : Bounds). map (λ y. pos (figure (bounds_of y))) xs ++ (pos (figure (bounds_of x)) ∷ [])) (each-kept e) trip-is
+        ∙ sym (map-append (λ x. pos (figure (bounds_of x))) (first_sums j f) (f j ∷ [])) in
+        sum-exact (λ x. figure (bounds_of x)) m j (first_sums (suc j) f) sum newton (omega (arith, shallow)) (map figure (first_trips kept_trips d j (bounds_of trip)))
+        (first_trips-length figure kept_trips d j (bounds_of trip)) values small
 
   -- ---- the plan's numbers of the loop
 
@@ -303,14 +298,14 @@ module _ {ps : List ℤ} {rs : List Record} {rows differences limits : List ℕ}
     counted = counted e m sum exact fits;
     low = each-low e;
     fitting = fitting e m sum exact fits;
-    least_is = figure-sum e m sum exact fits (λ x. x.least) least_column (λ x ns. refl) exact.least_exact fits.least_fits;
-    most_is = figure-sum e m sum exact fits (λ x. x.most) most_column (λ x ns. refl) exact.most_exact fits.most_fits;
+    sum_is =
+        λ i. bounds (figure-sum e m sum exact fits (λ x. x.least) exact.least_exact fits.least_fits i) (figure-sum e m sum exact fits (λ x. x.most) exact.most_exact fits.most_fits i);
   }
 
   -- ---- what is decided
 
   abbrev found : Bool
-  found = settled_at rows q (arm_numbers_in (all_arms (kept_arm_numbers a))) (suc j) (arm_count_in (all_arms (kept_arm_numbers a)) / suc j)
+  found = settled_at rows q (arms_of a).bounds (suc j) (arm_count_in (arms_of a) / suc j)
 
   abbrev settled_so : Bool
   settled_so = all_settled (choices_of (trips_kept a) zero b)
@@ -349,18 +344,18 @@ module _ {ps : List ℤ} {rs : List Record} {rows differences limits : List ℕ}
   left-sum e =
       (λ i. trips_sum ps l b ranges n j (arms-are i) (sums-are i) (trip-is i)) ∙ (trip-last ps l b ranges indexes outer free sound inside j e).1
 
-  -- the arms that a further trip opens with are the same numbers
-  next-arms : (is_closed || (is_ranked && ltb j h)) ≡ each → kept_arm_numbers a ≡ kept_arm_numbers (next_arms ps l b ranges n j a)
+  -- the arms that a further trip opens with are the same
+  next-arms : (is_closed || (is_ranked && ltb j h)) ≡ each → arms_of a ≡ arms_of (next_arms ps l b ranges n j a)
   unfolding next_arms keeps_each
   next-arms same = go is_ranked refl (ltb j h) refl
     where
-      go : (r : Bool) → is_ranked ≡ r → (w : Bool) → ltb j h ≡ w → kept_arm_numbers a ≡ kept_arm_numbers (cond r (cond w (kept_arms (trips_kept a) []) no_arms) a)
+      go : (r : Bool) → is_ranked ≡ r → (w : Bool) → ltb j h ≡ w → arms_of a ≡ arms_of (cond r (cond w (kept_arms (trips_kept a) []) no_arms) a)
       go false e w t = refl
-      go true e true t = sym (next-trip-numbers a)
+      go true e true t = sym (next-trip-arms a)
       go true e false t =
           let open-so = ranked-not-closed ps l b ranges e in
           let later : leb j h ≡ false = sym (λ i. open-so i || (e i && leb j h)) ∙ sym same ∙ (λ i. open-so i || (e i && t i)) in
-          ap kept_arm_numbers (arms-are ∙ arms-later ps l b ranges indexes outer e j (past (dec_le j h) later))
+          ap arms_of (arms-are ∙ arms-later ps l b ranges indexes outer e j (past (dec_le j h) later))
         where
           past : Dec (j ≤ h) → leb j h ≡ false → h < j
           past (yes small) x = absurd (true≢false (sym (le-leb j h small) ∙ x))
@@ -390,7 +385,7 @@ module _ {ps : List ℤ} {rs : List Record} {rows differences limits : List ℕ}
   further-in-step : Further is_closed is_ranked found settled_so n h j → passed ≡ next_passage
   unfolding next_sums keeps_each goes_unsettled
   further-in-step o =
-      let room : each ≡ true → 2 * j + 2 ≤ kept_room d = λ x. (let w = each-low-next o x in omega (arith, shallow)) in
+      let room : each ≡ true → j + 1 ≤ kept_room d = λ x. (let w = each-low-next o x in omega (arith, shallow)) in
       let after = sym (struct_at known (q + 1) body (exactly zero) (loop_frame l body (suc j) (add_trip each sums trip) enclosing ∷ fs) (next_arms ps l b ranges n j a) (suc v) place) in
       starts ∙ ap (pass_loop rows differences limits (d + 1)) (struct-here known c frames a v g.place)
       ∙ next-trip-opens ps rows differences limits end q l body j h n sums enclosing c v fs a end-role opener.found (frame-of known fs row rooms.0)

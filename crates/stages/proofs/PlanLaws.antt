@@ -43,7 +43,7 @@ use Rattle.planner.specs.Known.{PlanHeld}
 use Rattle.planner.proofs.PlansOf.{defined_plan, limit-below}
 use Rattle.planner.proofs.PlanRead.{plan-base, plan-limit, plan-push, plan-ranked, plan-stride}
 use Rattle.planner.proofs.PlanReports.{ceiling-within, reports_from, sheet-reports}
-use Rattle.state.specs.Open.{counter_part, filled, part_length}
+use Rattle.state.specs.Open.{filled}
 use Rattle.trips.specs.Trips.{difference_word, limit_now, limit_within, trips_at, trips_over}
 use Rattle.state.proofs.Innermost.{filled_at}
 use Rattle.stages.specs.Represent.{counter_numbers, keeps_each}
@@ -212,7 +212,7 @@ module _ {ps : List ℤ} {rs : List Record} {rows differences limits : List ℕ}
       -- the counters of the loops around it, and of itself where it is open
       module _ (inner : List ℕ) where
         abbrev counters : List ℕ
-        counters = filled (part_length counter_part) (counter_numbers fs ++ inner)
+        counters = filled 0 depth_limit (counter_numbers fs ++ inner)
 
         abbrev signed_counters : List ℤ
         signed_counters = counters_of fs ++ map pos inner
@@ -220,7 +220,7 @@ module _ {ps : List ℤ} {rs : List Record} {rows differences limits : List ℕ}
         counter-same : (i : ℕ) → i < depth_limit → get_or signed_counters i (pos zero) ≡ pos (get_or counters i 0)
         counter-same i less =
             ap (λ (xs : List ℤ). get_or xs i (pos zero)) (ap (λ (xs : List ℤ). xs ++ map pos inner) (counters-same fs) ∙ sym (map-append pos (counter_numbers fs) inner))
-            ∙ get_or-map pos (counter_numbers fs ++ inner) i 0 ∙ ap pos (sym (filled_at (part_length counter_part) (counter_numbers fs ++ inner) i less))
+            ∙ get_or-map pos (counter_numbers fs ++ inner) i 0 ∙ ap pos (sym (filled_at 0 depth_limit (counter_numbers fs ++ inner) i less))
 
         difference-is : difference_at base pushes (pos (get_or counters 0 0) ∷ pos (get_or counters 1 0) ∷ pos (get_or counters 2 0) ∷ []) ≡ d
         difference-is =

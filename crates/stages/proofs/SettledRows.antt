@@ -1,4 +1,4 @@
--- The walk over the rows of a loop's body finds the choices of its tree, in their order, each with its arms: what the code decides from kept numbers is
+-- The walk over the rows of a loop's body finds the choices of its tree, in their order, each with its arms: what the code decides from kept arms is
 -- what the definition asks.
 use mathlib.Core.Path.{◌≡◌, sym, ap, ap₂, subst, ◌∙◌}
 use mathlib.Core.Bool.{Bool, ◌&&◌}
@@ -6,7 +6,9 @@ use mathlib.Core.List.{List, [], ◌∷◌, ◌++◌, append_assoc}
 use Prim.Native.Nat.{ℕ, zero, suc, ◌+◌, ◌%◌, ◌≤◌, ◌<◌, max}
 use native.Mathlib.Nat.{mod-eq_of_lt}
 use native.Mathlib.Omega.{arith}
+use lib.Dec.{eqb}
 use lib.ListN.{length, length-append}
+use borrow.Author.Tests.{ne_eqb}
 use Rattle.meaning.specs.Limits.{record_limit}
 use Rattle.meaning.specs.Record.{Loop, Record, work_record, loop_record, end_record, choice_record, next_arm_record, kind}
 use Rattle.meaning.specs.Tree.{Block, Arms, empty, work, loop, choice, last_arm, arm, records, arms_records}
@@ -17,6 +19,7 @@ use Rattle.nest.specs.Rows.{end_number}
 use Rattle.nest.specs.Known.{RowsHeld}
 use Rattle.nest.proofs.RowsOf.{records_inside-records, records_inside-arms}
 use Rattle.nest.proofs.RowsRead.{role-reads, end_reads}
+use Rattle.state.specs.declared.bounds.Bounds.{Bounds}
 use Rattle.ranking.specs.Settled.{settled_choice, settled_choices}
 use Rattle.ranking.specs.Body.{next_in_body, arms_at, settled_at}
 use Rattle.ranking.proofs.BodySteps.{next-after-loop, next-after-choice, next-after-other}
@@ -130,7 +133,7 @@ module _ (rows : List ℕ) (rs : List Record) (held : RowsHeld rows rs) (few : l
     arms-pass : {i next : ℕ} {r : Record} {ys : List Record} → Next i r next ys → i < end → (role_number (role_of r) ≡ role_number next_arm_role → ⊥) →
         arms_with rows found end i ≡ arms_with rows found end next
     arms-pass {i} n before other =
-        sym (arms-no-more rows found end i before (λ e. other (sym n.role ∙ e))) ∙ ap (arms_with rows found end) n.is
+        sym (arms-no-more rows found end i before (sym (ne_eqb (role_at rows i) (role_number next_arm_role) (λ e. other (sym n.role ∙ e))))) ∙ ap (arms_with rows found end) n.is
 
     -- no next arm stands directly in a block
     block-arms : (b : Block) (i : ℕ) (ys : List Record) → Following i (records b ++ ys) → i + length (records b) ≤ end →
@@ -169,7 +172,7 @@ module _ (rows : List ℕ) (rs : List Record) (held : RowsHeld rows rs) (few : l
       let j : ℕ = i + length (records b) in
       let first = block-arms found end b i (next_arm_record ∷ others) split (omega arith) in
       let n = after-next-arm j others (passed i (records b) (next_arm_record ∷ others) split) in
-      let more = arms-one-more rows found end j (omega arith) n.role in
+      let more = arms-one-more rows found end j (omega arith) (sym (ap (λ (m : ℕ). eqb m (role_number next_arm_role)) n.role)) in
       let same = ap (arms_with rows (found + 1) end) n.is in
       let counted = arms_counted arms (found + 1) end (suc j) ys n.following (omega arith) in
       omega arith
@@ -187,18 +190,18 @@ module _ (rows : List ℕ) (rs : List Record) (held : RowsHeld rows rs) (few : l
 
   -- ---- the choices of a body
 
-  module _ (numbers : List ℕ) (count arms_per_trip : ℕ) where
+  module _ (kept : List Bounds) (count arms_per_trip : ℕ) where
     settled-pass : {i next : ℕ} {r : Record} {ys : List Record} (first end : ℕ) → Next i r next ys → i < end →
         (role_number (role_of r) ≡ role_number choice_role → ⊥) →
-        settled_from rows numbers count arms_per_trip first end i ≡ settled_from rows numbers count arms_per_trip first end next
+        settled_from rows kept count arms_per_trip first end i ≡ settled_from rows kept count arms_per_trip first end next
     settled-pass {i} first end n before other =
-        sym (settled-other rows numbers count arms_per_trip first end i before (λ e. other (sym n.role ∙ e)))
-        ∙ ap (settled_from rows numbers count arms_per_trip first end) n.is
+        sym (settled-other rows kept count arms_per_trip first end i before (sym (ne_eqb (role_at rows i) (role_number choice_role) (λ e. other (sym n.role ∙ e)))))
+        ∙ ap (settled_from rows kept count arms_per_trip first end) n.is
 
     block_settled : (b : Block) (first end i : ℕ) (ys : List Record) → Following i (records b ++ ys) → i + length (records b) ≡ end →
-        settled_from rows numbers count arms_per_trip first end i ≡ settled_choices numbers count arms_per_trip first b
+        settled_from rows kept count arms_per_trip first end i ≡ settled_choices kept count arms_per_trip first b
     unfolding records settled_choices role_number role_of role_of_kind kind
-    block_settled empty first end i ys h e = sym (settled-done rows numbers count arms_per_trip first end i (omega arith))
+    block_settled empty first end i ys h e = sym (settled-done rows kept count arms_per_trip first end i (omega arith))
     block_settled (work least most rest) first end i ys h e =
         let n = after-work i least most (records rest ++ ys) h in
         settled-pass first end n (omega arith) (λ e. omega arith) ∙ block_settled rest first end (suc i) ys n.following (omega arith)
@@ -211,19 +214,19 @@ module _ (rows : List ℕ) (rs : List Record) (held : RowsHeld rows rs) (few : l
         let inside = apart i choice_record (arms_records arms) (records rest) ys h in
         let n = after-choice i arms (records rest ++ ys) inside in
         let size = length-append (arms_records arms) (end_record ∷ records rest) in
-        settled-at-choice rows numbers count arms_per_trip first end i (omega arith) n.role
-        ∙ ap₂ (λ (own next : ℕ). settled_choice numbers count arms_per_trip first own && settled_from rows numbers count arms_per_trip (first + own) end next)
+        settled-at-choice rows kept count arms_per_trip first end i (omega arith) (sym (ap (λ (m : ℕ). eqb m (role_number choice_role)) n.role))
+        ∙ ap₂ (λ (own next : ℕ). settled_choice kept count arms_per_trip first own && settled_from rows kept count arms_per_trip (first + own) end next)
         (arms-of-choice i arms (records rest ++ ys) inside) n.is
-        ∙ ap (λ (others : Bool). settled_choice numbers count arms_per_trip first (arm_count arms) && others)
+        ∙ ap (λ (others : Bool). settled_choice kept count arms_per_trip first (arm_count arms) && others)
         (block_settled rest (first + arm_count arms) end (suc (suc i + length (arms_records arms))) ys n.following (omega arith))
 
     -- the loop that is record `opener`
     pub settled-rows : (opener : ℕ) (outer : List Record) (l : Loop) (body : Block) (ys : List Record) → length outer ≡ opener →
         rs ≡ outer ++ (loop_record l ∷ (records body ++ (end_record ∷ ys))) →
-        settled_at rows opener numbers count arms_per_trip ≡ settled_choices numbers count arms_per_trip 0 body
+        settled_at rows opener kept count arms_per_trip ≡ settled_choices kept count arms_per_trip 0 body
     settled-rows opener outer l body ys number split =
         let h : Following opener (loop_record l ∷ (records body ++ (end_record ∷ ys))) = record { before = outer; number = number; split = split } in
         let end = loop-end opener l body ys h in
         let e : opener + 1 ≡ suc opener = omega arith in
-        sym (settled-begin rows numbers count arms_per_trip opener) ∙ ap (settled_from rows numbers count arms_per_trip 0 (end_at rows opener)) e
+        sym (settled-begin rows kept count arms_per_trip opener) ∙ ap (settled_from rows kept count arms_per_trip 0 (end_at rows opener)) e
         ∙ block_settled body 0 (end_at rows opener) (suc opener) (end_record ∷ ys) (passed-one opener (loop_record l) (records body ++ (end_record ∷ ys)) h) (omega arith)

@@ -1,10 +1,10 @@
--- At the end of one of the first trips of a ranked loop, what is decided from the state's numbers is what the definition decides.
+-- At the end of one of the first trips of a ranked loop, what is decided from the state's kept arms is what the definition decides.
 use mathlib.Core.List.{List, [], ◌∷◌, ◌++◌}
 use mathlib.Core.Path.{ap, ap₂, subst, sym, ◌∙◌, ◌≡◌}
 use Prim.Native.Nat.{◌*◌, ◌+◌, ◌-◌, ◌/◌, ◌<◌, suc, ℕ, ◌≤◌}
 use native.Mathlib.Nat.{div-eq_of_eq-mul_left, mul_comm}
 use native.Mathlib.Omega.{arith}
-use lib.ListN.{length, length-append}
+use lib.ListN.{length, length-append, replicate}
 use lib.IntN.{ℤ}
 use Rattle.meaning.specs.Time.{Bounds, inner_indexes, trips}
 use Rattle.meaning.specs.Record.{Loop, Record, end_record, loop_record}
@@ -25,15 +25,18 @@ use Rattle.meaning.proofs.RankedSizes.{arms-few}
 use Rattle.loops.specs.Enclosing.{Enclosing, loops_around, nothing_open}
 use Rattle.planner.proofs.PlanReports.{inside-within, reports_from, sheet-reports}
 use Rattle.ranking.specs.Body.{settled_at}
-use Rattle.ranking.specs.Settled.{direct_arms, trip_arms_limit, trip_numbers}
+use Rattle.ranking.specs.Settled.{direct_arms, trip_arms_limit}
 use Rattle.ranking.proofs.ArmSizes.{choices-small, choices-times-length}
 use Rattle.ranking.proofs.LoopSettled.{first-trips-settled}
+use Rattle.state.specs.declared.bounds.Bounds as declared
+use Rattle.state.specs.Bounds.{no_bounds}
 use Rattle.state.specs.Open.{kept_arms_limit}
-use Rattle.state.specs.Arms.{arm_count_in, arm_numbers_in}
-use Rattle.state.proofs.ArmLaws.{all_arms, arm-count, arm-numbers}
-use Rattle.state.proofs.Innermost.{filled-short, zeros}
-use Rattle.stages.specs.Represent.{arm_total, kept_arm_numbers}
-use Rattle.stages.proofs.ArmNumbers.{numbers-counted}
+use Rattle.state.specs.Arms.{arm_count_in}
+use Rattle.state.proofs.ArmLaws.{arm-count}
+use Rattle.state.proofs.Innermost.{filled-short}
+use Rattle.ranking.specs.Settled.{trips_arms}
+use Rattle.stages.specs.Represent.{arms_of}
+use Rattle.stages.proofs.ArmsKept.{arm_total}
 use Rattle.stages.proofs.Places.{Stands, opens_of}
 use Rattle.stages.proofs.Affine.{enclosing-ranges, enclosing_of}
 use Rattle.stages.proofs.PlanLaws.{KnownPlan}
@@ -79,31 +82,28 @@ module _ {ps : List ℤ} {rs : List Record} {rows differences limits : List ℕ}
     total-is : arm_total (trips_kept a) ≡ suc j * direct_arms b
     total-is = ap arm_total arms ∙ first-total (suc j) (direct_arms b) arms_at (λ k. choices-times-length ps b (inner_indexes ps l (indexes_of ps fs) k))
 
-    per-trip : arm_count_in (all_arms (kept_arm_numbers a)) / suc j ≡ direct_arms b
-    unfolding kept_arm_numbers
-    per-trip = quotient-of j (direct_arms b) (arm_count_in (all_arms (kept_arm_numbers a)))
-        (arm-count (arm_total (trips_kept a)) (trip_numbers (trips_kept a)) (numbers-counted a) room ∙ total-is)
+    per-trip : arm_count_in (arms_of a) / suc j ≡ direct_arms b
+    unfolding arms_of
+    per-trip = quotient-of j (direct_arms b) (arm_count_in (arms_of a)) (arm-count (trips_arms (trips_kept a)) room ∙ total-is)
 
-    -- the numbers of these trips, and zeros
-    abbrev behind : List ℕ
-    behind = zeros (2 * kept_arms_limit - 2 * arm_total (trips_kept a))
+    -- these arms, and blank ones
+    abbrev behind : List declared.Bounds
+    behind = replicate (kept_arms_limit - arm_total (trips_kept a)) no_bounds
 
-    numbers-are : arm_numbers_in (all_arms (kept_arm_numbers a)) ≡ trip_numbers (first_sums (suc j) arms_at) ++ behind
-    unfolding kept_arm_numbers
-    numbers-are =
-        let counted = numbers-counted a in
-        arm-numbers (arm_total (trips_kept a)) (trip_numbers (trips_kept a)) counted room
-        ∙ filled-short (2 * kept_arms_limit) (2 * kept_arms_limit - 2 * arm_total (trips_kept a)) (trip_numbers (trips_kept a)) (omega arith)
-        ∙ ap (λ (xs : List (List Bounds)). trip_numbers xs ++ behind) arms
+    arms-are : (arms_of a).bounds ≡ trips_arms (first_sums (suc j) arms_at) ++ behind
+    unfolding arms_of
+    arms-are =
+        filled-short no_bounds kept_arms_limit (kept_arms_limit - arm_total (trips_kept a)) (trips_arms (trips_kept a)) (omega arith)
+        ∙ ap (λ (xs : List (List Bounds)). trips_arms xs ++ behind) arms
 
     few-arms : direct_arms b ≤ trip_arms_limit
     few-arms = omega (arith, few-records, arms-few ps b [], choices-times-length ps b [])
 
-    pub settled-now : settled_at rows q (arm_numbers_in (all_arms (kept_arm_numbers a))) (suc j) (arm_count_in (all_arms (kept_arm_numbers a)) / suc j)
+    pub settled-now : settled_at rows q (arms_of a).bounds (suc j) (arm_count_in (arms_of a) / suc j)
         ≡ all_settled (choices_of (trips_kept a) 0 b)
     settled-now =
-        ap₂ (λ (xs : List ℕ) (m : ℕ). settled_at rows q xs (suc j) m) numbers-are per-trip
-        ∙ settled-rows rows rs known.held.sheet_is.rows_are known.short (trip_numbers (first_sums (suc j) arms_at) ++ behind) (suc j) (direct_arms b) q h.outer l b following h.number split
+        ap₂ (λ (xs : List declared.Bounds) (m : ℕ). settled_at rows q xs (suc j) m) arms-are per-trip
+        ∙ settled-rows rows rs known.held.sheet_is.rows_are known.short (trips_arms (first_sums (suc j) arms_at) ++ behind) (suc j) (direct_arms b) q h.outer l b following h.number split
         ∙ first-trips-settled ps (suc j) (inner_indexes ps l (indexes_of ps fs)) b behind low few-arms
         (λ k below. choices-small ps b sound (inner_ranges ps l (ranges_of ps fs)) (inner_indexes ps l (indexes_of ps fs) k) within.0
         (trips-inside ps l (ranges_of ps fs) (indexes_of ps fs) k inside (omega arith)) within.1 (omega arith) (omega (arith, few-records)))

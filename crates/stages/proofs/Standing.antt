@@ -23,12 +23,13 @@ use Rattle.nest.proofs.Places.{choice-in-place, in-place-through, loop-body, loo
 use Rattle.nest.proofs.Walks.{opens_through}
 use Rattle.nest.proofs.RowsOf.{records_inside-body}
 use Rattle.loops.proofs.Sizes.{stride-moves}
+use Rattle.state.specs.Bounds.{no_bounds}
 use Rattle.state.specs.Open.{filled}
 use Rattle.state.specs.Kept.{kept_from, kept_room}
 use Rattle.state.proofs.Innermost.{filled-length}
 use Rattle.state.proofs.KeptLaws.{room-behind}
 use Rattle.passing.specs.Pass.{Passage, begins, goes_on}
-use Rattle.stages.specs.Represent.{counter_numbers, kept_numbers, struct_of}
+use Rattle.stages.specs.Represent.{counter_numbers, kept_of, struct_of}
 use Rattle.stages.specs.Laws.{defined_visits}
 use Rattle.stages.proofs.Steps.{Fits, open_loops, standing}
 use Rattle.stages.proofs.Places.{Framed, Placed, PlacedAt, Stands, opens_of}
@@ -43,14 +44,14 @@ opens-count [] = refl
 opens-count (loop_frame l body counter sums enclosing ∷ fs) = ap suc (opens-count fs)
 opens-count (choice_frame passed enclosing ∷ fs) = ap suc (opens-count fs)
 
-pub kept-length : (ps : List ℤ) (fs : List Frame) → open_loops fs ≤ depth_limit → length (kept_numbers ps fs) ≡ kept_from (open_loops fs)
-unfolding kept_numbers counter_numbers
+pub kept-length : (ps : List ℤ) (fs : List Frame) → open_loops fs ≤ depth_limit → length (kept_of ps fs) ≡ kept_from (open_loops fs)
+unfolding kept_of counter_numbers
 kept-length ps [] h = unfold kept_from in refl
 kept-length ps (loop_frame l body counter sums enclosing ∷ fs) h =
     let d : ℕ = open_loops fs in
     let one : length (counter_numbers fs ++ (counter ∷ [])) ≡ suc d = let k = length-append (counter_numbers fs) (counter ∷ []) in omega arith in
     let i = kept-length ps fs (omega arith) in
-    length-append (kept_numbers ps fs) (filled (kept_room d) _) ∙ ap₂ ◌+◌ i (filled-length (kept_room d) _) ∙ room-behind d (omega arith) ∙ ap kept_from (sym one)
+    length-append (kept_of ps fs) (filled no_bounds (kept_room d) _) ∙ ap₂ ◌+◌ i (filled-length no_bounds (kept_room d) _) ∙ room-behind d (omega arith) ∙ ap kept_from (sym one)
 kept-length ps (choice_frame passed enclosing ∷ fs) h = kept-length ps fs h
 
 -- what passing comes to

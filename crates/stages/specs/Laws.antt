@@ -6,9 +6,10 @@ use Rattle.meaning.specs.Tree.{tree}
 use Rattle.meaning.specs.Time.{time}
 use Rattle.meaning.specs.Visits as Defined
 use Rattle.meaning.specs.Stage as Meaning
-use Rattle.state.specs.States.{StateParts, blank_state}
+use Rattle.state.specs.declared.State.{State}
+use Rattle.state.specs.States.{blank_state}
 use Rattle.state.specs.Sums.{visits_of}
-use Rattle.stages.specs.Next.{parts_of, stage, states_after, visits_begun_by}
+use Rattle.stages.specs.Next.{stage, states_after, visits_begun_by}
 use Rattle.stages.specs.Represent.{struct_of}
 
 module _ (parameters : List ℤ) (rs : List Record) where
@@ -17,8 +18,8 @@ module _ (parameters : List ℤ) (rs : List Record) where
   defined_visits = Defined.visits parameters (tree rs) [] []
 
   -- the state at the sheet's end: the least and the most of the definition, the visits, and nothing open
-  unfoldable pub end_state : StateParts
-  end_state = parts_of (blank_state (length rs) (time parameters (tree rs) []).least (time parameters (tree rs) []).most defined_visits)
+  unfoldable pub end_state : State
+  end_state = blank_state (length rs) (time parameters (tree rs) []).least (time parameters (tree rs) []).most defined_visits
 
 -- of the sheet with the records rs
 pub record StageLaws (sheet : List ℕ) (parameters : List ℤ) (rs : List Record) : Type 0 where
