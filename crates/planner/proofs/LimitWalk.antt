@@ -61,7 +61,7 @@ module _ {count : ℕ} {rows differences facts before limits : List ℕ} {n : �
       (take_all n (sheet_plans ps (records_of sheet)) (omega (arith, s.all, plans-length ps (records_of sheet))))
       ∙ limits-begun entry begun (numbers_stored (loops_in (sheet_plans ps (records_of sheet))))
 
-  module _ (more : n < count) {role : ℕ} (role_is : role ≡ role_at rows n) where
+  module _ (more : n < count) where
     module _ (sheet : List ℕ) (ps : List ℤ) (s : Surveyed sheet ps count rows differences facts) where
       abbrev rs : List Record
       rs = records_of sheet
@@ -72,8 +72,8 @@ module _ {count : ℕ} {rows differences facts before limits : List ℕ} {n : �
       abbrev this : Record
       this = get_or (records_of sheet) n end_record
 
-      role-there : role ≡ role_number (role_of this)
-      role-there = role_is ∙ role-is sheet ps n here s.sheet_is.rows_are
+      role-there : role_at rows n ≡ role_number (role_of this)
+      role-there = role-is sheet ps n here s.sheet_is.rows_are
 
       abbrev plans : List (Option LoopPlan)
       plans = sheet_plans ps (records_of sheet)
@@ -84,7 +84,7 @@ module _ {count : ℕ} {rows differences facts before limits : List ℕ} {n : �
       one_more : (o : Option LoopPlan) → get_or plans n none ≡ o → loops_in (take (n + 1) plans) ≡ loops_in (take n plans) ++ loops_in (o ∷ [])
       one_more o e = ap loops_in (taken ∙ ap (λ (x : Option LoopPlan). take n plans ++ (x ∷ [])) e) ∙ loops-append-in (take n plans) (o ∷ [])
 
-    pub limited-skip : (role ≡ 1 → ⊥) → Limited count rows differences facts before limits (n + 1)
+    pub limited-skip : (role_at rows n ≡ 1 → ⊥) → Limited count rows differences facts before limits (n + 1)
     limited-skip other = record {
       so_far = omega arith;
       stored_so_far = λ sheet ps s.
@@ -100,7 +100,7 @@ module _ {count : ℕ} {rows differences facts before limits : List ℕ} {n : �
           (sym (one_more sheet ps s none no-plan ∙ (unfold loops_in in append-nil (loops_in (take n (plans sheet ps s))))));
     }
 
-    pub limited-next : role ≡ 1 → {number stored : ℕ} → number ≡ loop_at rows n →
+    pub limited-next : role_at rows n ≡ 1 → {number stored : ℕ} → number ≡ loop_at rows n →
         ((fs : List (Option LoopFacts)) → KnownInside rows differences facts n fs →
         stored ≡ number_among (depth_at rows n) (take (end_at rows n - (n + 1)) (drop (n + 1) fs))) →
         {limits2 : List ℕ} → limits2 ≡ paste (paste limits (limit_from number) (stored ∷ []) 1) 0 (max (get_or limits 0 0) stored ∷ []) 1

@@ -209,7 +209,7 @@ module _ {rows differences facts : List ℕ} {number depth end deepest : ℕ} {r
       ∙ number-of fs false ranked (r.ranking ∙ ap (some_prevents bars_ranking depth) none_left)
       (r.closing ∙ ap (λ l. ranked || some_prevents bars_closing depth l) none_left ∙ or-false ranked)
 
-  module _ (more : i < end) {role : ℕ} (role_is : role ≡ role_at rows i) where
+  module _ (more : i < end) where
     module _ (fs : List (Option LoopFacts)) (known : KnownInside rows differences facts number fs) where
       within : i < length fs
       within = omega (arith, known.ends, g.end_is)
@@ -219,21 +219,21 @@ module _ {rows differences facts : List ℕ} {number depth end deepest : ℕ} {r
           ap₂ (λ (n : ℕ) (l : List (Option LoopFacts)). take n l) (let e : end - i ≡ suc (end - (i + 1)) = omega arith in e) (drop-cons fs i none within)
           ∙ ap (λ (n : ℕ). get_or fs i none ∷ take (end - (i + 1)) (drop n fs)) (sym (add-one i))
 
-      no_loop : (role ≡ 1 → ⊥) → get_or fs i none ≡ none
+      no_loop : (role_at rows i ≡ 1 → ⊥) → get_or fs i none ≡ none
       no_loop n = go (get_or fs i none) refl
         where
           go : (o : Option LoopFacts) → get_or fs i none ≡ o → o ≡ none
           go none e = refl
-          go (some f) e = absurd (n (role_is ∙ (known.loops i f g.past e).0 ∙ (unfold role_number in refl)))
+          go (some f) e = absurd (n ((known.loops i f g.past e).0 ∙ (unfold role_number in refl)))
 
-      a-loop : role ≡ 1 → (f : LoopFacts) × (get_or fs i none ≡ some f)
+      a-loop : role_at rows i ≡ 1 → (f : LoopFacts) × (get_or fs i none ≡ some f)
       a-loop y = go (get_or fs i none) refl
         where
           go : (o : Option LoopFacts) → get_or fs i none ≡ o → (f : LoopFacts) × (get_or fs i none ≡ some f)
-          go none e = absurd (known.others i g.past within e (sym role_is ∙ y ∙ (unfold role_number in refl)))
+          go none e = absurd (known.others i g.past within e (y ∙ (unfold role_number in refl)))
           go (some f) e = (f, e)
 
-    pub limiting-skip : (role ≡ 1 → ⊥) → Limiting rows differences facts number depth end deepest ranked (i + 1)
+    pub limiting-skip : (role_at rows i ≡ 1 → ⊥) → Limiting rows differences facts number depth end deepest ranked (i + 1)
     unfolding some_prevents height_above
     limiting-skip n = record {
       depth_is = g.depth_is;
@@ -251,7 +251,7 @@ module _ {rows differences facts : List ℕ} {number depth end deepest : ℕ} {r
           };
     }
 
-    module _ (y : role ≡ 1) {j : ℕ} (j_is : j ≡ loop_at rows i) {b : Bool}
+    module _ (y : role_at rows i ≡ 1) {j : ℕ} (j_is : j ≡ loop_at rows i) {b : Bool}
         (b_is : (f : LoopFacts) → KnownFacts differences facts j f → b ≡ prevents (bars_ranking f) depth f) where
       module _ (fs : List (Option LoopFacts)) (known : KnownInside rows differences facts number fs) where
         abbrev this : LoopFacts

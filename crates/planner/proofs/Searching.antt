@@ -130,16 +130,16 @@ module _ (rows differences : List ℕ) (k m : ℕ) {of_k : ℕ} (of_k_is : of_k 
       one-fails (uneven_in (offset_at rows k) (offset_at rows (loop_around rows m k))) (uneven_at differences (loop_at rows k) m) (sym same-uneven ∙ e)
       ∙ ap₂ (λ (a b : ℕ). some (uneven_in a b)) (sym i) (sym (p ∙ ap (offset_at rows) o))
 
-module _ (rows differences facts : List ℕ) (depth k : ℕ) {role : ℕ} (role_is : role ≡ role_at rows k) where
-  pub other-passes : (role ≡ 1 → ⊥) → first_failing (loop_tests_at rows differences facts depth k) ≡ none
+module _ (rows differences facts : List ℕ) (depth k : ℕ) where
+  pub other-passes : (role_at rows k ≡ 1 → ⊥) → first_failing (loop_tests_at rows differences facts depth k) ≡ none
   unfolding loop_tests_at role_number first_failing
-  other-passes n = rw (ne_eqb (role_at rows k) 1 (λ e. n (role_is ∙ e)))
+  other-passes n = rw (ne_eqb (role_at rows k) 1 n)
 
-  module _ (one : role ≡ 1) {of_k : ℕ} (of_k_is : of_k ≡ loop_at rows k) {enough : Bool} (enough_is : enough ≡ enough_at facts of_k) where
+  module _ (one : role_at rows k ≡ 1) {of_k : ℕ} (of_k_is : of_k ≡ loop_at rows k) {enough : Bool} (enough_is : enough ≡ enough_at facts of_k) where
     first : first_failing (loop_tests_at rows differences facts depth k)
         ≡ cond (not enough) (some (too_few_trips (offset_at rows k))) (first_failing (tests_from (uneven_test_at rows differences k) depth (min (depth_at rows k) index_factors - depth)))
     unfolding loop_tests_at role_number first_failing
-    first = rw (eq-eqb (role_at rows k) 1 (sym role_is ∙ one), enough_is, of_k_is) refl
+    first = rw (eq-eqb (role_at rows k) 1 one, enough_is, of_k_is) refl
 
     pub few-fails : enough ≡ false → {place : ℕ} → place ≡ offset_at rows k → first_failing (loop_tests_at rows differences facts depth k) ≡ some (too_few_trips place)
     few-fails e p = first ∙ rw e (ap (λ (n : ℕ). some (too_few_trips n)) (sym p))

@@ -47,12 +47,12 @@ fn uneven(differences: &Differences, loop_number: usize, depth: usize) -> bool
 }
 
 // Whether loop K keeps a loop with `depth` loops around it from being ranked, and so from being closed.
-fn prevents(differences: &Differences, facts: &Facts, loop_number: usize, depth: usize) -> bool
-    ensures { (f : LoopFacts) → KnownFacts differences.now facts.now loop_number f → result ≡ C.prevents (bars_ranking f) depth f }
+fn prevents(arrays: &PlanArrays, loop_number: usize, depth: usize) -> bool
+    ensures { (f : LoopFacts) → KnownFacts arrays.now.differences arrays.now.facts loop_number f → result ≡ C.prevents (bars_ranking f) depth f }
 {
-    depth < rank_depth_at(facts, loop_number)
-        || !enough_at(facts, loop_number)
-        || uneven(differences, loop_number, depth)
+    depth < rank_depth_at(&arrays.facts, loop_number)
+        || !enough_at(&arrays.facts, loop_number)
+        || uneven(&arrays.differences, loop_number, depth)
 }
 
 // Whether closing is barred to a loop with `depth` loops around it by a choice around K, or was barred before.
@@ -77,7 +77,7 @@ fn limit(arrays: &PlanArrays, number: usize) -> u16
             continue;
         }
         let k = loop_at(&arrays.rows, i);
-        if prevents(&arrays.differences, &arrays.facts, k, depth) {
+        if prevents(arrays, k, depth) {
             return 0;
         }
         ranked = barred(ranked, &arrays.facts, k, depth);

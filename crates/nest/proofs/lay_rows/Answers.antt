@@ -1,4 +1,4 @@
--- The invariant: the rows of the records before `number` are stored, and the numbers carried are those of its position. The measure: the records left.
+-- The invariant: the rows of the records before `number` are stored, and the numbers carried are those of its position.
 use native.Mathlib.Omega.{arith}
 use Prim.Native.Nat.{◌+◌, ◌^◌, ◌<◌}
 use Rattle.nest.proofs.RowWalk.{laying-start, laying-done, laying-at, laying-next}

@@ -1,38 +1,25 @@
 -- The invariant: no loop before record `i` prevents ranking, `ranked` is whether closing is barred, and `deepest` is their largest depth.
-use native.Mathlib.Omega.{arith}
 use mathlib.Core.Path.{refl}
 use Rattle.layout.specs.Rows.{role_number, loop_role}
 use Rattle.layout.proofs.Roles.{role-found, role-other}
-use Rattle.planner.proofs.Preventing.{limiting-start, limiting-done, limiting-skip, limiting-prevented, limiting-next}
+use Rattle.planner.proofs.Preventing.{limiting-done, limiting-skip, limiting-prevented, limiting-next}
 use Rattle.planner.proofs.closing.limit.Goals as goal
-
-pub loop-i-init : goal.loop-i-init
-loop-i-init c =
-    let given = c.args in
-    limiting-start given.arrays.now.rows given.arrays.now.differences given.arrays.now.facts given.number c.depth_at-depth.result c.end_at-end.result
-    c.depth_at-depth.ensures c.end_at-end.ensures
 
 pub loop-i-preserved-then-ne : goal.loop-i-preserved-then-ne
 unfolding role_number
-loop-i-preserved-then-ne c = limiting-skip c.loop-i.invariant c.loop-i-test.true refl (role-other loop_role refl _ c.role_at.ensures c.ne.ensures c.if-ne.true)
+loop-i-preserved-then-ne c = limiting-skip c.loop-i.invariant c.loop-i-test.true (role-other loop_role refl _ c.role_at.ensures c.ne.ensures c.if-ne.true)
 
 pub returns-then-prevents : goal.returns-then-prevents
 unfolding role_number
 returns-then-prevents c =
-    limiting-prevented c.loop-i.invariant c.loop-i-test.true refl (role-found loop_role refl _ c.role_at.ensures c.ne.ensures c.if-ne.false)
+    limiting-prevented c.loop-i.invariant c.loop-i-test.true (role-found loop_role refl _ c.role_at.ensures c.ne.ensures c.if-ne.false)
     c.loop_at-k.ensures c.prevents.ensures c.if-prevents.true
 
 pub loop-i-preserved : goal.loop-i-preserved
 unfolding role_number
 loop-i-preserved c =
-    limiting-next c.loop-i.invariant c.loop-i-test.true refl (role-found loop_role refl _ c.role_at.ensures c.ne.ensures c.if-ne.false)
+    limiting-next c.loop-i.invariant c.loop-i-test.true (role-found loop_role refl _ c.role_at.ensures c.ne.ensures c.if-ne.false)
     c.loop_at-k.ensures c.prevents.ensures c.if-prevents.false c.barred-ranked.ensures c.depth_at.ensures c.max-deepest.ensures
-
-pub overflow_sub-deepest : goal.overflow_sub-deepest
-overflow_sub-deepest c = c.loop-i.invariant.deep
-
-pub overflow_add-deepest : goal.overflow_add-deepest
-overflow_add-deepest c = record { fits = omega (arith, c.loop-i.invariant.low) }
 
 pub returns : goal.returns
 returns c = limiting-done c.loop-i.invariant c.loop-i-test.false c.limit_number.ensures

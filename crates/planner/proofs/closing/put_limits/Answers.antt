@@ -1,5 +1,4 @@
 -- The invariant: the limits of the loops before record `number` are stored, and the other arrays stay.
-use native.Mathlib.Omega.{arith}
 use mathlib.Core.Path.{refl}
 use Rattle.layout.specs.Rows.{role_number, loop_role}
 use Rattle.layout.proofs.Roles.{role-found, role-other}
@@ -14,17 +13,14 @@ loop-number-init c =
 pub loop-number-preserved-then-ne : goal.loop-number-preserved-then-ne
 unfolding role_number
 loop-number-preserved-then-ne c = (
-  limited-skip c.loop-number.invariant.0 c.loop-number-test.true refl (role-other loop_role refl _ c.role_at.ensures c.ne.ensures c.if-ne.true),
+  limited-skip c.loop-number.invariant.0 c.loop-number-test.true (role-other loop_role refl _ c.role_at.ensures c.ne.ensures c.if-ne.true),
   c.loop-number.invariant.1,
 )
-
-pub limit-n-requires : goal.limit-n-requires
-limit-n-requires c = omega (arith, c.loop-number-test.true, c.requires)
 
 pub loop-number-preserved : goal.loop-number-preserved
 unfolding role_number
 loop-number-preserved c = (
-  limited-next c.loop-number.invariant.0 c.loop-number-test.true refl (role-found loop_role refl _ c.role_at.ensures c.ne.ensures c.if-ne.false)
+  limited-next c.loop-number.invariant.0 c.loop-number-test.true (role-found loop_role refl _ c.role_at.ensures c.ne.ensures c.if-ne.false)
       c.loop_at.ensures c.limit-n.ensures c.put_limit.ensures,
   c.loop-number.invariant.1,
 )

@@ -1,10 +1,7 @@
--- The invariant: the pushes from `m` on settle whether one from `depth` on is no multiple of the stride. The measure is how many are left.
-use mathlib.Core.Path.{refl, sym, ◌∙◌}
+-- The invariant: the pushes from `m` on settle whether one from `depth` on is no multiple of the stride.
+use mathlib.Core.Path.{sym, ◌∙◌}
 use Rattle.planner.proofs.Preventing.{uneven-found, uneven-next, uneven-none}
 use Rattle.planner.proofs.closing.uneven.Goals as goal
-
-pub loop-m-init : goal.loop-m-init
-loop-m-init c = record { rest = λ facts f known. refl }
 
 pub returns-then-uneven_in : goal.returns-then-uneven_in
 returns-then-uneven_in c facts f known =

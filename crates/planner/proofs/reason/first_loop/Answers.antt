@@ -20,11 +20,7 @@ unfolding role_number
 loop-k-preserved-then-ne c =
     let arrays = c.args.arrays.now in
     search-next c.loop-k.invariant c.loop-k-test.true
-    (other-passes arrays.rows arrays.differences arrays.facts c.depth_at-depth.result c.loop-k.k refl
-    (role-other loop_role refl _ c.role_at.ensures c.ne.ensures c.if-ne.true))
-
-pub loop-m-init : goal.loop-m-init
-loop-m-init c = record { rest = refl }
+    (other-passes arrays.rows arrays.differences arrays.facts c.depth_at-depth.result c.loop-k.k (role-other loop_role refl _ c.role_at.ensures c.ne.ensures c.if-ne.true))
 
 pub loop-m-preserved : goal.loop-m-preserved
 loop-m-preserved c =
@@ -37,8 +33,7 @@ unfolding role_number
 loop-k-preserved c =
     let arrays = c.args.arrays.now in
     search-next c.loop-k.invariant c.loop-k-test.true
-    (left-around arrays.rows arrays.differences arrays.facts c.depth_at-depth.result c.loop-k.k refl
-    (role-found loop_role refl _ c.role_at.ensures c.ne.ensures c.if-ne.false) c.loop_at-of_k.ensures c.enough_at.ensures c.if-not-enough_at.false
+    (left-around arrays.rows arrays.differences arrays.facts c.depth_at-depth.result c.loop-k.k (role-found loop_role refl _ c.role_at.ensures c.ne.ensures c.if-ne.false) c.loop_at-of_k.ensures c.enough_at.ensures c.if-not-enough_at.false
     (c.min-last.ensures ∙ ap (λ (n : ℕ). min n index_factors) c.depth_at.ensures)
     ∙ sym (search-done c.loop-m.invariant c.loop-m-test.false))
 
@@ -50,8 +45,7 @@ unfolding role_number
 returns-then-not-enough_at c =
     let arrays = c.args.arrays.now in
     search-found c.loop-k.invariant c.loop-k-test.true
-    (few-fails arrays.rows arrays.differences arrays.facts c.depth_at-depth.result c.loop-k.k refl
-    (role-found loop_role refl _ c.role_at.ensures c.ne.ensures c.if-ne.false) c.loop_at-of_k.ensures c.enough_at.ensures c.if-not-enough_at.true
+    (few-fails arrays.rows arrays.differences arrays.facts c.depth_at-depth.result c.loop-k.k (role-found loop_role refl _ c.role_at.ensures c.ne.ensures c.if-ne.false) c.loop_at-of_k.ensures c.enough_at.ensures c.if-not-enough_at.true
     c.place_at.ensures)
 
 pub returns-then-uneven_in : goal.returns-then-uneven_in
@@ -63,7 +57,6 @@ returns-then-uneven_in c =
     c.uneven_in.ensures c.if-uneven_in.true c.place_at-then-uneven_in.ensures
     c.loop_around-outer.ensures c.place_at-then-uneven_in-2.ensures in
     search-found c.loop-k.invariant c.loop-k-test.true
-    (left-around arrays.rows arrays.differences arrays.facts c.depth_at-depth.result c.loop-k.k refl
-    (role-found loop_role refl _ c.role_at.ensures c.ne.ensures c.if-ne.false) c.loop_at-of_k.ensures c.enough_at.ensures c.if-not-enough_at.false
+    (left-around arrays.rows arrays.differences arrays.facts c.depth_at-depth.result c.loop-k.k (role-found loop_role refl _ c.role_at.ensures c.ne.ensures c.if-ne.false) c.loop_at-of_k.ensures c.enough_at.ensures c.if-not-enough_at.false
     (c.min-last.ensures ∙ ap (λ (n : ℕ). min n index_factors) c.depth_at.ensures)
     ∙ sym (search-found c.loop-m.invariant c.loop-m-test.true test))

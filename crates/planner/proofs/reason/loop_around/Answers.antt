@@ -1,6 +1,5 @@
 -- The invariant: `last` is the last such loop before record `i`.
-use native.Mathlib.Omega.{arith}
-use mathlib.Core.Path.{ap, refl, ◌∙◌, ◌≡◌}
+use mathlib.Core.Path.{refl, ◌∙◌}
 use Rattle.planner.specs.Reasons.{loop_around}
 use Rattle.planner.proofs.Searching.{around-found, around-next}
 use Rattle.planner.proofs.reason.loop_around.Goals as goal
@@ -16,8 +15,3 @@ loop-i-preserved c =
       | then-is_loop_with w ↦ w.last-is ∙ around-found c.args.rows.now c.args.m c.loop-i.i c.is_loop_with.ensures w.if-is_loop_with.true
       | else-is_loop_with w ↦ w.last-is ∙ c.loop-i.invariant ∙ around-next c.args.rows.now c.args.m c.loop-i.i c.is_loop_with.ensures w.if-is_loop_with.false
     ]
-
-pub returns : goal.returns
-returns c =
-    let given = c.args in
-    c.loop-i.invariant ∙ ap (loop_around given.rows.now given.m) (let e : c.loop-i.i ≡ given.number = omega (arith, c.loop-i-test.false, c.loop-i.auto.i-end) in e)

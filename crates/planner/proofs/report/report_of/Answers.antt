@@ -9,12 +9,11 @@ pub returns-then-ne : goal.returns-then-ne
 unfolding role_number
 returns-then-ne c =
     let arrays = c.args.arrays.now in
-    report-none arrays.rows arrays.differences arrays.facts arrays.limits c.args.number refl (role-other loop_role refl _ c.role_at.ensures c.ne.ensures c.if-ne.true)
+    report-none arrays.rows arrays.differences arrays.facts arrays.limits c.args.number (role-other loop_role refl _ c.role_at.ensures c.ne.ensures c.if-ne.true)
 
 pub returns : goal.returns
 unfolding role_number
 returns c =
     let arrays = c.args.arrays.now in
-    report-loop arrays.rows arrays.differences arrays.facts arrays.limits c.args.number refl
-    (role-found loop_role refl _ c.role_at.ensures c.ne.ensures c.if-ne.false) c.loop_at-of_loop.ensures c.offset_at.ensures c.limit_at.ensures c.ranked_at.ensures
+    report-loop arrays.rows arrays.differences arrays.facts arrays.limits c.args.number (role-found loop_role refl _ c.role_at.ensures c.ne.ensures c.if-ne.false) c.loop_at-of_loop.ensures c.offset_at.ensures c.limit_at.ensures c.ranked_at.ensures
     c.class_by-class.ensures c.ceiling_at.ensures c.reason_by.ensures
