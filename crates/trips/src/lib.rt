@@ -44,7 +44,8 @@ pub fn trips_at(differences: &Differences, opened: &Open, number: usize) -> u64
     Loop::MAX_CEILING.min(steps + 1)
 }
 
-// How many trips a closed or ranked loop with so many loops around it visits at most where the rest is summed; 0 where it is walked.
+// How many trips a closed or ranked loop with so many loops around it visits at most where the rest is summed; 0 where it is walked. Stays a number with
+// that 0 in place of an Option, since the plan's arrays hold it so, and the smaller one of it and of the depths left is 0 there by itself.
 #[tactic(auto, unfolding(crate::specs::Trips::limit_within))]
 pub fn limit_within(limits: &Limits, number: usize, depth: usize) -> u64
     requires { depth ≤ depth_limit }
