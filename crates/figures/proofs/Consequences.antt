@@ -1,5 +1,5 @@
 -- What the promises of the library call come to; drawn from these promises alone, so that a weaker part of them breaks a theorem.
-use mathlib.Core.List.{List, [], ◌∷◌}
+use mathlib.Core.List.{List, []}
 use mathlib.Core.Path.{ap, subst, sym, ◌∙◌, ◌≡◌}
 use Prim.Native.Nat.{ℕ}
 use lib.ListN.{length}
@@ -12,8 +12,9 @@ use Rattle.meaning.specs.Reader.{ok, read}
 use Rattle.meaning.specs.Tree.{tree}
 use Rattle.meaning.proofs.Consequences.{Largest, Smallest, figures-decided, figures-defined, least-smallest, most-largest}
 use Rattle.meaning.proofs.Logic.{ok-injective}
-use Rattle.state.specs.States.{StateParts, blank_state}
-use Rattle.state.specs.Sums.{visits_of}
+use Rattle.state.specs.declared.State.{State}
+use Rattle.state.specs.States.{blank_state}
+use Rattle.state.specs.Sums.{sums, visits_of}
 use Rattle.stages.specs.Next.{states_after, visits_begun_by}
 use Rattle.figures.specs.Demand.{Answered, stages_of}
 
@@ -38,9 +39,9 @@ module _ (sheet : List ℕ) (ps : List ℤ) where
 
     -- every state of the code's stages that stands at the sheet's end holds these figures
     pub answered-state : (n : ℕ) → (states_after sheet ps n).at ≡ length rs →
-        (states_after sheet ps n).sums ≡ f.least ∷ f.most ∷ f.visits ∷ []
+        (states_after sheet ps n).sums ≡ sums f.least f.most f.visits
     unfolding blank_state
-    answered-state n end = ap (λ (s : StateParts). s.sums) (demand-of.only_end n end)
+    answered-state n end = ap (λ (s : State). s.sums) (demand-of.only_end n end)
 
     -- after any number of the code's stages the visits are how many of these began one
     pub answered-begun : (n : ℕ) → visits_of (states_after sheet ps n).sums ≡ visits_begun_by sheet ps n

@@ -15,9 +15,10 @@ use Rattle.meaning.proofs.Demands.{demand3}
 use Rattle.meaning.proofs.FewerVisits.{answer-falls}
 use Rattle.meaning.proofs.Logic.{ok-injective}
 use Rattle.loops.proofs.Sizes.{SmallParameters}
-use Rattle.state.specs.States.{StateParts, blank_state}
+use Rattle.state.specs.declared.State.{State}
+use Rattle.state.specs.States.{blank_state}
 use Rattle.stages.specs.Laws.{StageLaws, end_state}
-use Rattle.stages.specs.Next.{parts_of, states_after}
+use Rattle.stages.specs.Next.{states_after}
 use Rattle.stages.proofs.Laws.{stage_laws}
 use Rattle.figures.specs.Demand.{Answered, stages_of}
 
@@ -26,8 +27,8 @@ module _ (sheet : List ℕ) (ps : List ℤ) where
   over-code : (rs : List Record) (f : Figures) → StageLaws sheet ps rs → Demand3 ps rs (defined_stages ps rs) f → Demand3 ps rs (stages_of sheet ps (length rs)) f
   unfolding end_state blank_state
   over-code rs f laws d =
-      let end : end_state ps rs ≡ parts_of (blank_state (length rs) f.least f.most f.visits) =
-      λ t. parts_of (blank_state (length rs) (d.trip_by_trip t).least (d.trip_by_trip t).most (sym d.defined t)) in
+      let end : end_state ps rs ≡ blank_state (length rs) f.least f.most f.visits =
+      λ t. blank_state (length rs) (d.trip_by_trip t).least (d.trip_by_trip t).most (sym d.defined t) in
       let final = ap (λ (v : ℕ). states_after sheet ps (suc v)) d.defined ∙ laws.reached ∙ end in
       record {
         never_below = d.never_below;
@@ -36,7 +37,7 @@ module _ (sheet : List ℕ) (ps : List ℤ) where
         slowest = d.slowest;
         trip_by_trip = d.trip_by_trip;
         small = d.small;
-        reached = ap (λ (s : StateParts). s.at) final;
+        reached = ap (λ (s : State). s.at) final;
         final = final;
         only_end = λ n h. laws.ended n h ∙ end;
         none_before = λ n few h. laws.none_before n (omega (arith, d.defined)) h;

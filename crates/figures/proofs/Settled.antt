@@ -1,4 +1,4 @@
--- The library call's contract leaves one value: where the answer has figures, the enum's case with these figures.
+-- The library call's contract leaves one value: where the answer has figures, `Ok` of these figures.
 use mathlib.Core.Path.{◌≡◌, sym, subst, ap, ◌∙◌}
 use mathlib.Core.List.{List}
 use mathlib.Core.Bool.{Bool, true, false}
@@ -8,14 +8,16 @@ use lib.Dec.{T}
 use Rattle.meaning.specs.Reader.{Result, ok, refused}
 use Rattle.meaning.specs.Answer as Meaning
 use Rattle.meaning.specs.Answer.{figures}
-use Rattle.figures.specs.declared.Answer.{Answer}
-use Rattle.figures.specs.declared.Answer.TheVariants as answer
+use Rattle.std.specs.Prelude as prelude
+use Rattle.std.specs.Prelude.{Ok, Err}
+use Rattle.sheet.specs.declared.refusal.Refusal.{Refusal}
+use Rattle.figures.specs.declared.Figures as Code
 use Rattle.figures.specs.Answers.{answer_result}
 
 -- whatever the library call returns by its contract is these figures
 abbrev pub Returns : List ℕ → List ℤ → ℕ → ℕ → ℕ → ℕ → Type 0
 Returns sheet parameters budget least most visits =
-    (r : Answer) → answer_result r ≡ Meaning.answer sheet parameters budget → r ≡ answer.Figured (record { least = least; most = most; visits = visits })
+    (r : prelude.Result Code.Figures Refusal) → answer_result r ≡ Meaning.answer sheet parameters budget → r ≡ Ok (record { least = least; most = most; visits = visits })
 
 answered : Result Meaning.Figures → Bool
 answered (ok f) = true
@@ -30,7 +32,7 @@ pub returns :
     (sheet : List ℕ) (parameters : List ℤ) (budget least most visits : ℕ)
     → Meaning.answer sheet parameters budget ≡ ok (figures least most visits) → Returns sheet parameters budget least most visits
 unfolding answered figures_or
-returns sheet parameters budget least most visits known (answer.Figured f) h =
+returns sheet parameters budget least most visits known (Ok f) h =
     let same = ap (figures_or (figures 0 0 0)) (h ∙ known) in
-    λ i. answer.Figured (record { least = (same i).least; most = (same i).most; visits = (same i).visits })
-returns sheet parameters budget least most visits known (answer.Refused r) h = absurd (subst T (sym (ap answered (h ∙ known))) tt)
+    λ i. Ok (record { least = (same i).least; most = (same i).most; visits = (same i).visits })
+returns sheet parameters budget least most visits known (Err r) h = absurd (subst T (sym (ap answered (h ∙ known))) tt)

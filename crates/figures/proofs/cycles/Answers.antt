@@ -1,14 +1,16 @@
 -- Refusal 7; the refusal of the plan; or what the sums say of the state in which the stages stop. Demand 3 follows from the answer.
-use mathlib.Core.Path.{sym}
+use mathlib.Core.Path.{sym, ◌∙◌}
 use mathlib.Core.Logic.{inl, inr, ⊎_elim}
 use native.Mathlib.Omega.{arith}
 use Rattle.meaning.proofs.Answers.{BudgetInRange, BudgetOutOfRange, answer-out-of-range, answer-refused}
+use Rattle.layout.specs.Rows.{rows_length}
+use Rattle.layout.specs.Loops.{differences_length, facts_length, limits_length}
 use Rattle.meaning.proofs.LongerSheets.{answered-alike}
 use Rattle.planner.proofs.Planned.{planned-count, planned-refused}
 use Rattle.planner.proofs.Parameters.{small-parameters}
 use Rattle.figures.specs.Demand.{Answered}
-use Rattle.figures.proofs.Answering.{stopped-answer, planned}
-use Rattle.figures.proofs.Demands.{only-visits-fall, promised}
+use Rattle.figures.proofs.Answering.{stopped-answer, planned, passed_on, laid}
+use Rattle.figures.proofs.Demands.{only-visits-fall, promised, answer-demand}
 use Rattle.figures.proofs.cycles.Goals as goal
 
 pub returns-then-budget-eq0 : goal.returns-then-budget-eq0
@@ -26,19 +28,32 @@ returns-then-budget-eq0 c =
 
 pub repeat_stages-sums-requires : goal.repeat_stages-sums-requires
 repeat_stages-sums-requires c =
-    let count = planned-count c.args.sheet.now c.args.parameters c.plan-planned.result c.plan-planned.ensures.answer c.in-Count.is in
-    planned c.args.sheet.now c.args.parameters (small-parameters c.args.parameters _ c.well_formed.1.0) count.0 count.1
-    c.plan-planned.ensures.rows c.plan-planned.ensures.differences c.plan-planned.ensures.facts c.plan-planned.ensures.limits count.2
-
-pub returns-in-Count : goal.returns-in-Count
-returns-in-Count c =
     let sheet = c.args.sheet.now in
     let parameters = c.args.parameters in
     let small = small-parameters parameters _ c.well_formed.1.0 in
+    let blank = c.blank-arrays.ensures in
+    let call = c.plan.ensures in
+    let count = planned-count sheet parameters c.plan.result call.answer c.in_ok-count.was in
+    let rows = laid rows_length _ call.rows blank.rows in
+    let differences = laid differences_length _ call.differences blank.differences in
+    let facts = laid facts_length _ call.facts blank.facts in
+    let limits = laid limits_length _ call.limits blank.limits in
+    planned sheet parameters small count.0 count.1 rows differences facts limits count.2
+
+pub returns : goal.returns
+returns c =
+    let sheet = c.args.sheet.now in
+    let parameters = c.args.parameters in
+    let small = small-parameters parameters _ c.well_formed.1.0 in
+    let blank = c.blank-arrays.ensures in
+    let call = c.plan.ensures in
+    let count = planned-count sheet parameters c.plan.result call.answer c.in_ok-count.was in
+    let rows = laid rows_length _ call.rows blank.rows in
+    let differences = laid differences_length _ call.differences blank.differences in
+    let facts = laid facts_length _ call.facts blank.facts in
+    let limits = laid limits_length _ call.limits blank.limits in
     let range : BudgetInRange c.args.budget = record { positive = omega (arith, c.if-budget-eq0.false); within = c.if-budget-gt-MAX_BUDGET.false } in
-    let count = planned-count sheet parameters c.plan-planned.result c.plan-planned.ensures.answer c.in-Count.is in
-    let stopped = stopped-answer sheet parameters small count.0 count.1
-    c.plan-planned.ensures.rows c.plan-planned.ensures.differences c.plan-planned.ensures.facts c.plan-planned.ensures.limits count.2
+    let stopped = stopped-answer sheet parameters small count.0 count.1 rows differences facts limits count.2
     c.args.budget range c.repeat_stages-sums.ensures in
     let p = promised sheet parameters small c.args.budget c.figures_of.ensures stopped in
     record {
@@ -48,17 +63,16 @@ returns-in-Count c =
       fewer = only-visits-fall sheet parameters c.args.budget p.0;
     }
 
-pub returns-in-Refused : goal.returns-in-Refused
-unfolding Answered
-returns-in-Refused c =
+pub returns-in_err-count : goal.returns-in_err-count
+returns-in_err-count c =
     let sheet = c.args.sheet.now in
     let parameters = c.args.parameters in
     let range : BudgetInRange c.args.budget = record { positive = omega (arith, c.if-budget-eq0.false); within = c.if-budget-gt-MAX_BUDGET.false } in
-    let down = planned-refused sheet parameters c.plan-planned.result c.plan-planned.ensures.answer c.in-Refused.is in
-    let answers = sym (answer-refused sheet parameters c.args.budget _ _ range down) in
+    let down = planned-refused sheet parameters c.plan.result c.plan.ensures.answer c.in_err-count.was in
+    let answers = passed_on c.from_residual.result _ c.from_residual.ensures.1 ∙ sym (answer-refused sheet parameters c.args.budget _ _ range down) in
     record {
       answers = answers;
-      demand3 = tt;
+      demand3 = answer-demand sheet parameters (small-parameters parameters _ c.well_formed.1.0) c.args.budget _ answers;
       before = answered-alike sheet parameters c.args.budget _ answers;
       fewer = only-visits-fall sheet parameters c.args.budget answers;
     }
