@@ -4,7 +4,7 @@ use lib.Signed.{le_z}
 use Rattle.whole.specs.Newton.{differences}
 use Rattle.whole.specs.Ranking.{coefficients, newton_series, none_negative, dominates}
 use Rattle.ranking.specs.declared.series.Series.{Series}
-use Rattle.ranking.specs.Series.{rank, rank_known, value_limit, first_difference, second_difference, third_difference, series_of}
+use Rattle.ranking.specs.Series.{rank, rank_known, value_limit, first_difference, second_difference, third_difference, word, series_of}
 use Rattle.ranking.specs.Lead.{at_least, turned_series}
 use Rattle.ranking.proofs.Signed.{small-value, small-first-difference, small-second-difference, small-third-difference, rank_below, rank-order, turned-order}
 
@@ -81,10 +81,10 @@ known-below order count z = by-test (ltb order count)
 
 -- a series of words
 pub record Words (s : Series) : Type 0 where
-  pub word0 : s.order0 < 2 ^ 64
-  pub word1 : s.order1 < 2 ^ 64
-  pub word2 : s.order2 < 2 ^ 64
-  pub word3 : s.order3 < 2 ^ 64
+  pub word0 : (word s 0) < 2 ^ 64
+  pub word1 : (word s 1) < 2 ^ 64
+  pub word2 : (word s 2) < 2 ^ 64
+  pub word3 : (word s 3) < 2 ^ 64
 
 pub series-words-below : (count a b c d : ℕ) → Words (series_of count a b c d)
 unfolding series_of
@@ -98,8 +98,8 @@ series-words-below count a b c d = record {
 pub turned-at-least : (s t : Series) → Words s → Words t → at_least (turned_series s) (turned_series t) ≡ at_least t s
 unfolding at_least turned_series
 turned-at-least s t hs ht =
-    let p0 = turned-order t.order0 s.order0 ht.word0 hs.word0 in
-    let p1 = turned-order t.order1 s.order1 ht.word1 hs.word1 in
-    let p2 = turned-order t.order2 s.order2 ht.word2 hs.word2 in
-    let p3 = turned-order t.order3 s.order3 ht.word3 hs.word3 in
+    let p0 = turned-order (word t 0) (word s 0) ht.word0 hs.word0 in
+    let p1 = turned-order (word t 1) (word s 1) ht.word1 hs.word1 in
+    let p2 = turned-order (word t 2) (word s 2) ht.word2 hs.word2 in
+    let p3 = turned-order (word t 3) (word s 3) ht.word3 hs.word3 in
     λ i. p0 i && (p1 i && (p2 i && (p3 i && true)))

@@ -6,6 +6,7 @@ use Rattle.meaning.proofs.Logic.{T_and, and_t, same_truth}
 use Rattle.meaning.proofs.RankedLead as Meaning
 use Rattle.ranking.specs.declared.series.Series.{Series}
 use Rattle.ranking.specs.declared.lead.Lead.{Lead}
+use Rattle.ranking.specs.Series.{word as series_word}
 use Rattle.ranking.specs.Lead.{at_least, joined_series, first_lead, next_lead, lead_over}
 
 -- ---- the order of lists that the law asks for: of their first four elements
@@ -69,7 +70,7 @@ complete x y h =
 
 -- a series as such a list
 unfoldable pub words_of : Series → List ℤ
-words_of s = pos s.order0 ∷ pos s.order1 ∷ pos s.order2 ∷ pos s.order3 ∷ []
+words_of s = pos (series_word s 0) ∷ pos (series_word s 1) ∷ pos (series_word s 2) ∷ pos (series_word s 3) ∷ []
 
 pub better-at-least : (s t : Series) → better (words_of s) (words_of t) ≡ at_least s t
 unfolding better words_of at_least

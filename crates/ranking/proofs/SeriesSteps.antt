@@ -1,5 +1,5 @@
 -- The words of a series are those of its wrapped differences.
-use Rattle.std.proofs.Common.{◌≡◌, ℕ, ◌+◌, ◌-◌, ◌-ℤ◌, ◌%◌, ◌^◌, ◌<◌, cond, ltb, ℤ, ap, ◌∙◌, arith}
+use Rattle.std.proofs.Common.{◌≡◌, ℕ, ◌+◌, ◌-◌, ◌-ℤ◌, ◌%◌, ◌^◌, ◌<◌, cond, ltb, ℤ, ap, ◌∙◌, arith, [], ◌∷◌}
 use Rattle.whole.specs.Residue.{Congruent}
 use Rattle.whole.proofs.Residue.{congruent-pos, congruent-add, congruent-mod, congruent-unique, congruent-wrapping-sub}
 use Rattle.ranking.specs.declared.series.Series.{Series}
@@ -44,7 +44,7 @@ module _ (count a b c d : ℕ) (ha : a < 2 ^ 64) (hb : b < 2 ^ 64) (hc : c < 2 ^
   pub series-words : {word0 word1 word2 word3 : ℕ} →
       word0 ≡ cond (ltb 0 count) ((a + 2 ^ 63) % 2 ^ 64) 0 → word1 ≡ cond (ltb 1 count) ((first0 + 2 ^ 63) % 2 ^ 64) 0 →
       word2 ≡ cond (ltb 2 count) ((second0 + 2 ^ 63) % 2 ^ 64) 0 → word3 ≡ cond (ltb 3 count) ((wrapped second0 second1 + 2 ^ 63) % 2 ^ 64) 0 →
-      ◌≡◌ {A = Series} (record { order0 = word0; order1 = word1; order2 = word2; order3 = word3 }) (series_of count a b c d)
+      ◌≡◌ {A = Series} (record { words = word0 ∷ word1 ∷ word2 ∷ word3 ∷ [] }) (series_of count a b c d)
   unfolding series_of
   series-words is_word0 is_word1 is_word2 is_word3 =
       let of_first0 = of-wrapped ha hb (congruent-pos (2 ^ 64) b) (congruent-pos (2 ^ 64) a) in
@@ -57,4 +57,4 @@ module _ (count a b c d : ℕ) (ha : a < 2 ^ 64) (hb : b < 2 ^ 64) (hc : c < 2 ^
       let p1 = rank-known 1 count of_first0 is_word1 in
       let p2 = rank-known 2 count of_second0 is_word2 in
       let p3 = rank-known 3 count of_third0 is_word3 in
-      λ i. record { order0 = p0 i; order1 = p1 i; order2 = p2 i; order3 = p3 i }
+      λ i. record { words = p0 i ∷ p1 i ∷ p2 i ∷ p3 i ∷ [] }

@@ -1,29 +1,20 @@
 -- The comparison of series arm after arm: the largest coefficient of each order so far, and whether one arm has them all.
-use Rattle.std.specs.Prelude.{ℕ, zero, suc, ◌-◌, ◌^◌, max, Bool, true, ◌&&◌, ◌||◌, nat_le}
+use Rattle.std.specs.Prelude.{ℕ, zero, suc, ◌-◌, ◌^◌, max, Bool, true, ◌&&◌, ◌||◌, [], ◌∷◌, nat_le}
 use Rattle.ranking.specs.declared.series.Series.{Series}
 use Rattle.ranking.specs.declared.lead.Lead.{Lead}
+use Rattle.ranking.specs.Series.{word}
 
 -- no coefficient of s is below that of t
 unfoldable pub at_least : Series → Series → Bool
-at_least s t = nat_le t.order0 s.order0 && (nat_le t.order1 s.order1 && (nat_le t.order2 s.order2 && (nat_le t.order3 s.order3 && true)))
+at_least s t = nat_le (word t 0) (word s 0) && (nat_le (word t 1) (word s 1) && (nat_le (word t 2) (word s 2) && (nat_le (word t 3) (word s 3) && true)))
 
 -- the larger coefficient of each order
 unfoldable pub joined_series : Series → Series → Series
-joined_series s t = record {
-  order0 = max s.order0 t.order0;
-  order1 = max s.order1 t.order1;
-  order2 = max s.order2 t.order2;
-  order3 = max s.order3 t.order3;
-}
+joined_series s t = record { words = max (word s 0) (word t 0) ∷ max (word s 1) (word t 1) ∷ max (word s 2) (word t 2) ∷ max (word s 3) (word t 3) ∷ [] }
 
 -- words that compare the other way round: the largest is the smallest coefficient
 unfoldable pub turned_series : Series → Series
-turned_series s = record {
-  order0 = 2 ^ 64 - 1 - s.order0;
-  order1 = 2 ^ 64 - 1 - s.order1;
-  order2 = 2 ^ 64 - 1 - s.order2;
-  order3 = 2 ^ 64 - 1 - s.order3;
-}
+turned_series s = record { words = (2 ^ 64 - 1 - word s 0) ∷ (2 ^ 64 - 1 - word s 1) ∷ (2 ^ 64 - 1 - word s 2) ∷ (2 ^ 64 - 1 - word s 3) ∷ [] }
 
 -- after the first arm
 unfoldable pub first_lead : Series → Lead

@@ -1,7 +1,11 @@
 -- The Newton series of one arm's sums in the first trips, as words of 64 bits.
-use Rattle.std.specs.Prelude.{ℕ, ◌^◌, cond, ℤ, pos, ◌+ℤ◌, ◌-ℤ◌, nat_lt}
+use Rattle.std.specs.Prelude.{ℕ, ◌^◌, cond, [], ◌∷◌, ℤ, pos, ◌+ℤ◌, ◌-ℤ◌, nat_lt, slice_index}
 use Rattle.whole.specs.Integer.{floor_remainder}
 use Rattle.ranking.specs.declared.series.Series.{Series}
+
+-- the word of an order
+abbrev pub word : Series → ℕ → ℕ
+word s order = slice_index s.words order
 
 -- the word in two's complement of a signed number of 64 bits, plus 2^63: such words, unsigned, compare as the numbers do
 unfoldable pub rank : ℤ → ℕ
@@ -30,8 +34,9 @@ value_limit = 2 ^ 52
 -- the series of the first `count` of four values
 unfoldable pub series_of : ℕ → ℕ → ℕ → ℕ → ℕ → Series
 series_of count a b c d = record {
-  order0 = rank_known 0 count (pos a);
-  order1 = rank_known 1 count (first_difference (pos a) (pos b));
-  order2 = rank_known 2 count (second_difference (pos a) (pos b) (pos c));
-  order3 = rank_known 3 count (third_difference (pos a) (pos b) (pos c) (pos d));
+  words =
+      rank_known 0 count (pos a)
+      ∷ rank_known 1 count (first_difference (pos a) (pos b))
+      ∷ rank_known 2 count (second_difference (pos a) (pos b) (pos c))
+      ∷ rank_known 3 count (third_difference (pos a) (pos b) (pos c) (pos d)) ∷ [];
 }

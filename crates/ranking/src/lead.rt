@@ -2,7 +2,8 @@
 ghost use Rattle.std.specs.Prelude.{◌≡◌};
 ghost use Rattle.ranking.specs.Lead.{at_least, joined_series, turned_series, first_lead, attained_with, next_lead};
 
-use crate::series::Series;
+use crate::series::{ORDERS, Series};
+use std::array::from_fn;
 
 #[derive(Clone, Copy)]
 pub struct Lead {
@@ -15,7 +16,7 @@ pub struct Lead {
 fn at_least(s: Series, t: Series) -> bool
     ensures { result ≡ at_least s t }
 {
-    t.order0 <= s.order0 && t.order1 <= s.order1 && t.order2 <= s.order2 && t.order3 <= s.order3
+    (0..ORDERS).all(|order| t.words[order] <= s.words[order])
 }
 
 // The larger coefficient of each order.
@@ -24,10 +25,7 @@ fn joined(s: Series, t: Series) -> Series
     ensures { result ≡ joined_series s t }
 {
     Series {
-        order0: s.order0.max(t.order0),
-        order1: s.order1.max(t.order1),
-        order2: s.order2.max(t.order2),
-        order3: s.order3.max(t.order3),
+        words: from_fn(|order| s.words[order].max(t.words[order])),
     }
 }
 
@@ -37,10 +35,7 @@ pub fn turned(s: Series) -> Series
     ensures { result ≡ turned_series s }
 {
     Series {
-        order0: u64::MAX - s.order0,
-        order1: u64::MAX - s.order1,
-        order2: u64::MAX - s.order2,
-        order3: u64::MAX - s.order3,
+        words: from_fn(|order| u64::MAX - s.words[order]),
     }
 }
 

@@ -5,13 +5,12 @@ ghost use Rattle.ranking.specs.Series.{series_of};
 // 2^63: added to signed words, it makes them compare as unsigned ones do.
 const HALF: u64 = 0x8000_0000_0000_0000;
 
+pub const ORDERS: usize = 4;
+
 // The coefficients of order 0 to 3, each plus 2^63, modulo 2^64; 0 for an order that is not known.
 #[derive(Clone, Copy)]
 pub struct Series {
-    pub order0: u64,
-    pub order1: u64,
-    pub order2: u64,
-    pub order3: u64,
+    pub words: [u64; ORDERS],
 }
 
 // The coefficient of an order, in two's complement, plus 2^63; 0 where fewer values are known.
@@ -36,9 +35,11 @@ pub fn series_of(count: u64, first: u64, second: u64, third: u64, fourth: u64) -
     let next_second = last_first.wrapping_sub(next_first);
     let third_difference = next_second.wrapping_sub(second_difference);
     Series {
-        order0: rank_known(0, count, first),
-        order1: rank_known(1, count, first_difference),
-        order2: rank_known(2, count, second_difference),
-        order3: rank_known(3, count, third_difference),
+        words: [
+            rank_known(0, count, first),
+            rank_known(1, count, first_difference),
+            rank_known(2, count, second_difference),
+            rank_known(3, count, third_difference),
+        ],
     }
 }
