@@ -16,8 +16,20 @@ use Rattle.ranges.specs.RangePromise.{RangeAnswered}
 use Rattle.ranges.proofs.Tabulated.{length-tabulate}
 use Rattle.ranges.proofs.FiguredOver.{figured_over}
 use Rattle.ranges.proofs.RangeRuns.{range-answered}
-use Rattle.sweep.specs.Overs.{padded, visits_over, cycles_over, least_figure, most_figure}
-use Rattle.sweep.proofs.Padding.{padded-length, padded-numbers}
+use Rattle.std.specs.Prelude as prelude
+use Rattle.std.specs.Prelude.{Ok, Err}
+use Rattle.std.specs.Result.{IsErrAnd}
+use Rattle.sheet.specs.declared.refusal.Refusal.{Refusal}
+use Rattle.sheet.specs.Refusals.{refusal_number}
+use Rattle.sweep.specs.declared.extremes.Extremes as Code
+use Rattle.sweep.specs.Ranges.{range_result}
+use Rattle.sweep.specs.Overs.{visits_over, cycles_over, least_figure, most_figure}
+use Rattle.sweep.proofs.Padding.{padded-numbers}
+
+-- a refusal that is passed on
+pub passed_on : (r : prelude.Result Code.Extremes Refusal) (e : Refusal) → IsErrAnd r (λ y. y ≡ e) → range_result r ≡ refused (refusal_number e.kind) e.offset
+passed_on (Ok x) e h = absurd h
+passed_on (Err y) e h = λ i. refused (refusal_number (h i).kind) (h i).offset
 
 module _ (sheet : List ℕ) (ps : List ℤ) (budget : ℕ) (range : ParameterRange) where
   -- both promises of the library call over a range
@@ -36,10 +48,8 @@ module _ (sheet : List ℕ) (ps : List ℤ) (budget : ℕ) (range : ParameterRan
           let same = e ∙ and_then-no (λ fs. ok (total_visits fs)) f in
           (λ t. refused (refused-number same t) (refused-place same t)) ∙ sym (and_then-no (λ fs. ok (extremes_of range fs)) f)
 
-  -- where there are figures, and a call left them in the arrays
-  module _ {visits count : ℕ} {leasts mosts : List ℕ} (v : ok visits ≡ visits_over (figures_over sheet ps budget range))
-      (l : leasts ≡ cycles_over leasts_of (figures_over sheet ps budget range)) (m : mosts ≡ cycles_over mosts_of (figures_over sheet ps budget range))
-      (counted : count ≡ value_count range) where
+  -- where there are figures
+  module _ {visits count : ℕ} (v : ok visits ≡ visits_over (figures_over sheet ps budget range)) (counted : count ≡ value_count range) where
     figures : (fs : List Figures) × (figures_over sheet ps budget range ≡ ok fs) × (ok (total_visits fs) ≡ ok visits)
     unfolding visits_over
     figures = and_then-ok (figures_over sheet ps budget range) (λ fs. ok (total_visits fs)) visits (sym v)
@@ -53,24 +63,13 @@ module _ (sheet : List ℕ) (ps : List ℤ) (budget : ℕ) (range : ParameterRan
     pub count-in-range : (1 ≤ count) × (count ≤ value_limit)
     count-in-range = let o = (figured_over sheet ps budget range fs figures.1).count_in_range in (omega (arith, o.0, counted), omega (arith, o.1, counted))
 
-    leasts-are : leasts ≡ padded (leasts_of fs)
-    unfolding cycles_over
-    leasts-are = l ∙ ap (cycles_over leasts_of) figures.1
-
-    mosts-are : mosts ≡ padded (mosts_of fs)
-    unfolding cycles_over
-    mosts-are = m ∙ ap (cycles_over mosts_of) figures.1
-
-    pub leasts-length : value_limit ≡ length leasts
-    leasts-length = sym (ap (λ (xs : List ℕ). length xs) leasts-are ∙ padded-length (leasts_of fs) (omega (arith, length-map fs least_figure, long, count-in-range.1)))
-
-    pub mosts-length : value_limit ≡ length mosts
-    mosts-length = sym (ap (λ (xs : List ℕ). length xs) mosts-are ∙ padded-length (mosts_of fs) (omega (arith, length-map fs most_figure, long, count-in-range.1)))
-
-    pub answer-found : {e : Extremes} → e ≡ extremes_in range (take count leasts) (take count mosts) visits → ok e ≡ extremes sheet ps budget range
-    unfolding extremes
-    answer-found {e} is =
-        let ls : take count leasts ≡ leasts_of fs = ap (take count) leasts-are ∙ padded-numbers (leasts_of fs) (length-map fs least_figure ∙ long) in
-        let ms : take count mosts ≡ mosts_of fs = ap (take count) mosts-are ∙ padded-numbers (mosts_of fs) (length-map fs most_figure ∙ long) in
+    -- and a call left them in the arrays
+    pub answer-found : {leasts mosts : List ℕ} → leasts ≡ cycles_over leasts_of (figures_over sheet ps budget range)
+        → mosts ≡ cycles_over mosts_of (figures_over sheet ps budget range)
+        → {e : Extremes} → e ≡ extremes_in range (take count leasts) (take count mosts) visits → ok e ≡ extremes sheet ps budget range
+    unfolding extremes cycles_over
+    answer-found {leasts} {mosts} l m {e} is =
+        let ls : take count leasts ≡ leasts_of fs = ap (take count) (l ∙ ap (cycles_over leasts_of) figures.1) ∙ padded-numbers (leasts_of fs) (length-map fs least_figure ∙ long) in
+        let ms : take count mosts ≡ mosts_of fs = ap (take count) (m ∙ ap (cycles_over mosts_of) figures.1) ∙ padded-numbers (mosts_of fs) (length-map fs most_figure ∙ long) in
         ap {B = Result Extremes} ok (is ∙ (λ t. extremes_in range (ls t) (ms t) (sym (ok-injective figures.2) t)))
         ∙ sym (and_then-yes (λ fs. ok (extremes_of range fs)) figures.1)

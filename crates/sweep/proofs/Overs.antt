@@ -1,12 +1,13 @@
 -- What the visits and the arrays are where a range is refused, and where all its values are filled in.
-use mathlib.Core.Path.{◌≡◌, refl, sym, ap, ◌∙◌}
+use mathlib.Core.Path.{◌≡◌, refl, sym, ap, subst, ◌∙◌}
 use mathlib.Core.List.{List}
-use mathlib.Core.Bool.{Bool, true}
+use mathlib.Core.Bool.{Bool, true, false}
 use Prim.Native.Nat.{ℕ, ◌≤◌, ◌<◌}
 use native.Mathlib.Decide.{dec_le}
 use native.Mathlib.Omega.{arith}
 use borrow.Author.Tests.{le-leb, lt-leb}
 use lib.IntN.{ℤ}
+use Rattle.meaning.specs.Limits.{budget_limit}
 use Rattle.meaning.specs.Reader.{Result, ok, refused, require, and_then}
 use Rattle.meaning.specs.Answer.{Figures}
 use Rattle.meaning.proofs.Logic.{refused-is-not-ok, ok-injective, and_then-yes, and_then-no}
@@ -15,8 +16,24 @@ use Rattle.ranges.specs.ParameterRange.{ParameterRange, range_allowed}
 use Rattle.ranges.specs.FiguresOver.{total_visits, figures_over}
 use Rattle.ranges.specs.Extremes.{leasts_of, mosts_of}
 use Rattle.ranges.proofs.Refusals.{over-figures, over-8, over-refused}
+use Rattle.std.specs.Prelude as prelude
+use Rattle.std.specs.Prelude.{Ok, Err, is_err}
+use Rattle.meaning.proofs.Logic.{true-is-not-false}
+use Rattle.sheet.specs.declared.refusal.Refusal.{Refusal}
+use Rattle.sheet.specs.Refusals.{refusal_number}
+use Rattle.sheet.specs.Answers.{refusable}
 use Rattle.sweep.specs.Overs.{blank, padded, visits_over, cycles_over, within_budget}
 use Rattle.sweep.specs.Filled.{FilledTo, FilledOver}
+
+-- ---- what a result holds
+
+pub refusal_in : (r : prelude.Result ℕ Refusal) → is_err r ≡ true → (number : ℕ) × (place : ℕ) × (refusable r ≡ refused number place)
+refusal_in (Ok n) e = true-is-not-false (sym e)
+refusal_in (Err r) e = (refusal_number r.kind, r.offset, refl)
+
+pub visits_in : (r : prelude.Result ℕ Refusal) → is_err r ≡ false → (n : ℕ) × (refusable r ≡ ok n)
+visits_in (Ok n) e = (n, refl)
+visits_in (Err r) e = true-is-not-false e
 
 -- ---- 8
 
@@ -82,3 +99,12 @@ module _ (sheet : List ℕ) (ps : List ℤ) (budget : ℕ) (range : ParameterRan
           filled-figures (over-figures sheet ps budget range allowed b f.from h) (within-kept (omega (arith, w.0)) ∙ ap ok w.0) w.1.0 w.1.1
       by-visits (no h) = filled-refused (over-8 sheet ps budget range allowed b f.from (omega arith)) (within-spent (f.passed (omega arith)))
   filled-over (refused number place) e = filled-refused (over-refused sheet ps budget range allowed b e) (within-refused budget number place)
+
+-- the same, from what the code tested
+pub filled-after : (sheet : List ℕ) (ps : List ℤ) (budget : ℕ) (range : ParameterRange) {allowed : Bool} → allowed ≡ range_allowed range → allowed ≡ true
+    → ¬ (budget ≡ 0) → budget ≤ budget_limit → {leasts mosts : List ℕ} (r : Result ℕ) {s : Result ℕ} → FilledTo sheet ps budget range r leasts mosts
+    → within_budget budget r ≡ s → FilledOver (figures_over sheet ps budget range) s leasts mosts
+filled-after sheet ps budget range tested passed some few {leasts} {mosts} r filled e =
+    let b : BudgetInRange budget = record { positive = omega arith; within = few } in
+    subst (λ x. FilledOver (figures_over sheet ps budget range) x leasts mosts) e
+    (filled-over sheet ps budget range (sym tested ∙ passed) b r filled)

@@ -1,9 +1,9 @@
 -- Numbers at the start of an array with zeros after them: one number more, and the numbers taken out again.
 use mathlib.Core.Path.{◌≡◌, refl, sym, ap, ◌∙◌}
 use mathlib.Core.List.{List, [], ◌∷◌, ◌++◌, append_assoc}
-use Prim.Native.Nat.{ℕ, suc, ◌-◌, ◌≤◌, ◌<◌}
+use Prim.Native.Nat.{ℕ, suc, ◌-◌, ◌<◌}
 use native.Mathlib.Omega.{arith}
-use lib.ListN.{length, set, take, replicate, length-append, length-replicate}
+use lib.ListN.{length, set, take, replicate, length-append}
 use lib.Seq.{take_at}
 use Rattle.meaning.specs.Limits.{value_limit}
 use Rattle.sweep.specs.Overs.{blank, padded}
@@ -25,10 +25,6 @@ padded-more ns n h =
 pub padded-none : padded [] ≡ blank
 unfolding padded
 padded-none = refl
-
-pub padded-length : (ns : List ℕ) → length ns ≤ value_limit → length (padded ns) ≡ value_limit
-unfolding padded
-padded-length ns h = omega (arith, length-append ns (replicate (value_limit - length ns) 0), length-replicate {A = ℕ} (value_limit - length ns) 0)
 
 -- the numbers themselves
 pub padded-numbers : (ns : List ℕ) {count : ℕ} → length ns ≡ count → take count (padded ns) ≡ ns

@@ -4,13 +4,6 @@ use Rattle.meaning.specs.Limits.{value_limit}
 use Rattle.meaning.specs.Reader.{Result, ok, refused, require, and_then}
 use Rattle.meaning.specs.Answer.{Figures}
 use Rattle.ranges.specs.FiguresOver.{total_visits}
-use Rattle.sweep.specs.declared.over.OverAnswer.{OverAnswer}
-use Rattle.sweep.specs.declared.over.OverAnswer.TheVariants as over
-
--- the visits, or a refusal with its number and its place
-abbrev pub over_result : OverAnswer → Result ℕ
-over_result (over.Visits n) = ok n
-over_result (over.Refused r) = refused r.number r.offset
 
 -- ---- all values
 

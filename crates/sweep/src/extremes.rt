@@ -1,91 +1,74 @@
 // The smallest least and the largest most over a range (document 02, C-14).
-ghost use Rattle.std.specs.Prelude.{◌≡◌, ◌≤◌, length, take};
-ghost use Rattle.ranges.specs.ParameterRange.{value_count};
-ghost use Rattle.ranges.specs.Extremes.{smallest, largest, position, extremes_in, extremes};
+ghost use Rattle.std.specs.Prelude.{◌≡◌, ℕ, Bool, ◌<◌, ◌≤◌, length, slice_index};
+ghost use Rattle.std.specs.Cmp.{IsStrictWeakOrder};
+ghost use Rattle.std.specs.List.{IsFirstBest};
+ghost use Rattle.meaning.specs.Limits.{value_limit};
+ghost use Rattle.ranges.specs.ParameterRange.{value_count, value_at};
+ghost use Rattle.ranges.specs.Extremes.{extremes_in, extremes};
 ghost use Rattle.ranges.specs.RangePromise.{RangeAnswered};
 ghost use Rattle.sweep.specs.Values.{range_of};
+ghost use Rattle.sweep.specs.Tests.{Tests};
 ghost use Rattle.sweep.specs.Ranges.{extremes_is, range_result};
 
-use crate::over::{Cycles, OverAnswer, figures_over};
+use crate::over::{Cycles, figures_over};
 use crate::values::{MAX_VALUES, ParameterRange, value_at, value_count};
 use form::Parameters;
 use sheet::refusal::Refusal;
 
 // Cycles, with the smallest value that gives them.
-#[derive(Clone, Copy)]
+#[derive(Clone, Copy, PartialEq, Eq)]
 pub struct Extreme {
     pub cycles: u64,
     pub value: i16,
 }
 
-#[derive(Clone, Copy)]
+#[derive(Clone, Copy, PartialEq, Eq)]
 pub struct Extremes {
     pub least: Extreme,
     pub most: Extreme,
     pub visits: u64,
 }
 
-#[derive(Clone, Copy)]
-pub enum RangeAnswer {
-    Found(Extremes),
-    Refused(Refusal),
-}
-
-// Where the smallest of the first `count` numbers stands first.
-fn place_of_smallest(numbers: &[u64], count: usize) -> usize
-    requires { (1 ≤ count) × (count ≤ length numbers.now) }
-    ensures { result ≡ position (smallest (take count numbers.now)) (take count numbers.now) }
+// Where the number stands first that no other beats.
+fn first_best<F: Fn(u64, u64) -> bool>(numbers: &[u64], beats: F) -> usize
+    requires callable { F.IsAlwaysCallable beats }
+    requires some { 0 < length numbers.now }
+    ensures { (test : ℕ → ℕ → Bool) → IsStrictWeakOrder test → Tests (F.post beats) test →
+        IsFirstBest test numbers.now (length numbers.now) result }
 {
-    let mut place: usize = 0;
-    let mut k: usize = 1;
-    while k < count {
-        if numbers[k] < numbers[place] {
-            place = k;
+    let mut best = 0;
+    for k in 1..numbers.len() {
+        if beats(numbers[k], numbers[best]) {
+            best = k;
         }
-        k += 1;
     }
-    place
+    best
 }
 
-// Where the largest of the first `count` numbers stands first.
-fn place_of_largest(numbers: &[u64], count: usize) -> usize
-    requires { (1 ≤ count) × (count ≤ length numbers.now) }
-    ensures { result ≡ position (largest (take count numbers.now)) (take count numbers.now) }
+// The cycles at a place, and the value there.
+fn extreme_at(cycles: &[u64], range: ParameterRange, place: usize) -> Extreme
+    requires inside { (place < length cycles.now) × (length cycles.now ≡ value_count (range_of range)) }
+    requires few { value_count (range_of range) ≤ value_limit }
+    ensures cycles { result.cycles ≡ slice_index cycles.now place }
+    ensures value { result.value ≡ value_at (range_of range) place }
 {
-    let mut place: usize = 0;
-    let mut k: usize = 1;
-    while k < count {
-        if numbers[place] < numbers[k] {
-            place = k;
-        }
-        k += 1;
+    Extreme {
+        cycles: cycles[place],
+        value: value_at(range, place as u32),
     }
-    place
 }
 
-// From the leasts and the mosts at the `count` values of the range.
-fn extremes_in(
-    leasts: &[u64],
-    mosts: &[u64],
-    range: ParameterRange,
-    count: u32,
-    visits: u64,
-) -> Extremes
-    requires { (count ≡ value_count (range_of range)) × ((1 ≤ count) × ((count ≤ length leasts.now) × (count ≤ length mosts.now))) }
-    ensures { extremes_is result ≡ extremes_in (range_of range) (take count leasts.now) (take count mosts.now) visits }
+// From the leasts and the mosts at the values of the range.
+fn extremes_in(leasts: &[u64], mosts: &[u64], range: ParameterRange, visits: u64) -> Extremes
+    requires some { 0 < value_count (range_of range) }
+    requires counted { (length leasts.now ≡ value_count (range_of range)) × (length mosts.now ≡ value_count (range_of range)) }
+    requires few { value_count (range_of range) ≤ value_limit }
+    ensures { extremes_is result ≡ extremes_in (range_of range) leasts.now mosts.now visits }
 {
-    let low = place_of_smallest(leasts, count as usize);
-    let high = place_of_largest(mosts, count as usize);
     Extremes {
-        least: Extreme {
-            cycles: leasts[low],
-            value: value_at(range, low as u32),
-        },
-        most: Extreme {
-            cycles: mosts[high],
-            value: value_at(range, high as u32),
-        },
-        visits: visits,
+        least: extreme_at(leasts, range, first_best(leasts, |a, b| a < b)),
+        most: extreme_at(mosts, range, first_best(mosts, |a, b| b < a)),
+        visits,
     }
 }
 
@@ -95,19 +78,13 @@ pub fn cycles_over_range(
     parameters: Parameters,
     budget: u32,
     range: ParameterRange,
-) -> RangeAnswer
+) -> Result<Extremes, Refusal>
     ensures answers { range_result result ≡ extremes sheet.now parameters budget (range_of range) }
     ensures promise { RangeAnswered sheet.now parameters budget (range_of range) (range_result result) }
 {
     let mut leasts: Cycles = [0; MAX_VALUES];
     let mut mosts: Cycles = [0; MAX_VALUES];
-    let over = figures_over(sheet, parameters, budget, range, &mut leasts, &mut mosts);
-    match over {
-        OverAnswer::Visits(visits) => {
-            let count = value_count(range);
-            let found = extremes_in(&leasts, &mosts, range, count, visits);
-            RangeAnswer::Found(found)
-        }
-        OverAnswer::Refused(r) => RangeAnswer::Refused(r),
-    }
+    let visits = figures_over(sheet, parameters, budget, range, &mut leasts, &mut mosts)?;
+    let count = value_count(range) as usize;
+    Ok(extremes_in(&leasts[..count], &mosts[..count], range, visits))
 }

@@ -8,7 +8,7 @@ use form::Parameters;
 use form::packed::PARAMETER_FACTORS;
 
 // The values first, first + 1, .., last of parameter 1, 2, 3 or 4.
-#[derive(Clone, Copy)]
+#[derive(Clone, Copy, PartialEq, Eq)]
 pub struct ParameterRange {
     pub number: u32,
     pub first: i16,
@@ -22,12 +22,7 @@ pub const MAX_VALUES: usize = 256;
 pub fn value_count(range: ParameterRange) -> u32
     ensures { result ≡ value_count (range_of range) }
 {
-    let first = range.first;
-    let last = range.last;
-    if last < first {
-        return 0;
-    }
-    ((last as i64) - (first as i64) + 1) as u32
+    (i64::from(range.last) - i64::from(range.first) + 1).max(0) as u32
 }
 
 // Value number k.
@@ -35,8 +30,7 @@ pub(crate) fn value_at(range: ParameterRange, k: u32) -> i16
     requires { k < value_count (range_of range) }
     ensures { result ≡ value_at (range_of range) k }
 {
-    let first = range.first;
-    ((first as i64) + (k as i64)) as i16
+    (i64::from(range.first) + i64::from(k)) as i16
 }
 
 // The parameters at value number k.
@@ -54,16 +48,9 @@ pub(crate) fn parameters_at(parameters: Parameters, range: ParameterRange, k: u3
 pub(crate) fn is_allowed(range: ParameterRange) -> bool
     ensures { result ≡ range_allowed (range_of range) }
 {
-    let number = range.number;
     let count = value_count(range);
-    if number == 0 {
-        return false;
-    }
-    if (PARAMETER_FACTORS as u32) < number {
-        return false;
-    }
-    if count == 0 {
-        return false;
-    }
-    count <= (MAX_VALUES as u32)
+    0 < range.number
+        && range.number <= PARAMETER_FACTORS as u32
+        && 0 < count
+        && count <= MAX_VALUES as u32
 }

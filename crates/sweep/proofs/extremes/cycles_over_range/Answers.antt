@@ -1,43 +1,59 @@
 -- The extremes of the figures over the range, or their refusal; and what is promised of either.
-use mathlib.Core.Path.{sym, ap, ◌∙◌}
-use native.Mathlib.Omega.{arith}
+use Rattle.std.proofs.Common.{sym, ◌∙◌, arith}
+use Rattle.std.proofs.lemmas.List.{length-take-le}
 use Rattle.sweep.specs.Values.{range_of}
-use Rattle.sweep.specs.Overs.{over_result}
-use Rattle.sweep.proofs.Answering.{promised, answer-refused, count-in-range, leasts-length, mosts-length, answer-found}
+use Rattle.sweep.proofs.Answering.{promised, answer-refused, count-in-range, answer-found, passed_on}
 use Rattle.sweep.proofs.extremes.cycles_over_range.Goals as goal
+
+pub returns-in_err-visits : goal.returns-in_err-visits
+returns-in_err-visits c =
+    let a = c.args in
+    let p = promised a.sheet.now a.parameters a.budget (range_of a.range)
+    (passed_on c.from_residual.result _ c.from_residual.ensures.1
+    ∙ answer-refused a.sheet.now a.parameters a.budget (range_of a.range) c.in_err-visits.ensures.visits) in
+    record { answers = p.0; promise = p.1 }
+
+pub slice_bounds-leasts-end : goal.slice_bounds-leasts-end
+slice_bounds-leasts-end c =
+    let a = c.args in
+    let count = count-in-range a.sheet.now a.parameters a.budget (range_of a.range) c.in_ok-visits.ensures.visits c.value_count-count.ensures in
+    omega (arith, c.figures_over.array_long, count.1)
 
 pub slice_bounds-extremes_in-end : goal.slice_bounds-extremes_in-end
 slice_bounds-extremes_in-end c =
     let a = c.args in
-    let visits = sym (ap over_result c.in-Visits.is) ∙ c.figures_over-over.ensures.visits in
-    leasts-length a.sheet.now a.parameters a.budget (range_of a.range) visits c.figures_over-over.ensures.leasts c.figures_over-over.ensures.mosts c.value_count-count.ensures
+    let count = count-in-range a.sheet.now a.parameters a.budget (range_of a.range) c.in_ok-visits.ensures.visits c.value_count-count.ensures in
+    sym (length-take-le _ _ (omega (arith, c.figures_over.array_long, count.1)))
 
-pub slice_bounds-extremes_in-end-in-Visits : goal.slice_bounds-extremes_in-end-in-Visits
-slice_bounds-extremes_in-end-in-Visits c =
+pub slice_bounds-mosts-end : goal.slice_bounds-mosts-end
+slice_bounds-mosts-end c =
     let a = c.args in
-    let visits = sym (ap over_result c.in-Visits.is) ∙ c.figures_over-over.ensures.visits in
-    mosts-length a.sheet.now a.parameters a.budget (range_of a.range) visits c.figures_over-over.ensures.leasts c.figures_over-over.ensures.mosts c.value_count-count.ensures
+    let count = count-in-range a.sheet.now a.parameters a.budget (range_of a.range) c.in_ok-visits.ensures.visits c.value_count-count.ensures in
+    omega (arith, c.figures_over.array_long2, count.1)
 
-pub extremes_in-found-requires : goal.extremes_in-found-requires
-extremes_in-found-requires c =
+pub slice_bounds-extremes_in-end-2 : goal.slice_bounds-extremes_in-end-2
+slice_bounds-extremes_in-end-2 c =
     let a = c.args in
-    let visits = sym (ap over_result c.in-Visits.is) ∙ c.figures_over-over.ensures.visits in
-    let count = count-in-range a.sheet.now a.parameters a.budget (range_of a.range) visits c.figures_over-over.ensures.leasts c.figures_over-over.ensures.mosts c.value_count-count.ensures in
-    let leasts = leasts-length a.sheet.now a.parameters a.budget (range_of a.range) visits c.figures_over-over.ensures.leasts c.figures_over-over.ensures.mosts c.value_count-count.ensures in
-    let mosts = mosts-length a.sheet.now a.parameters a.budget (range_of a.range) visits c.figures_over-over.ensures.leasts c.figures_over-over.ensures.mosts c.value_count-count.ensures in
-    (c.value_count-count.ensures, (count.0, (omega (arith, count.1, leasts), omega (arith, count.1, mosts))))
+    let count = count-in-range a.sheet.now a.parameters a.budget (range_of a.range) c.in_ok-visits.ensures.visits c.value_count-count.ensures in
+    sym (length-take-le _ _ (omega (arith, c.figures_over.array_long2, count.1)))
 
-pub returns-in-Visits : goal.returns-in-Visits
-returns-in-Visits c =
+pub extremes_in-requires : goal.extremes_in-requires
+extremes_in-requires c =
     let a = c.args in
-    let visits = sym (ap over_result c.in-Visits.is) ∙ c.figures_over-over.ensures.visits in
-    let found = answer-found a.sheet.now a.parameters a.budget (range_of a.range) visits c.figures_over-over.ensures.leasts c.figures_over-over.ensures.mosts c.value_count-count.ensures c.extremes_in-found.ensures in
+    let count = count-in-range a.sheet.now a.parameters a.budget (range_of a.range) c.in_ok-visits.ensures.visits c.value_count-count.ensures in
+    record {
+      some = omega (arith, count.0, c.value_count-count.ensures);
+      counted = (
+        length-take-le _ _ (omega (arith, c.figures_over.array_long, count.1)) ∙ c.value_count-count.ensures,
+        length-take-le _ _ (omega (arith, c.figures_over.array_long2, count.1)) ∙ c.value_count-count.ensures,
+      );
+      few = omega (arith, count.1, c.value_count-count.ensures);
+    }
+
+pub returns : goal.returns
+returns c =
+    let a = c.args in
+    let found = answer-found a.sheet.now a.parameters a.budget (range_of a.range) c.in_ok-visits.ensures.visits c.value_count-count.ensures
+    c.figures_over.ensures.leasts c.figures_over.ensures.mosts c.extremes_in.ensures in
     let p = promised a.sheet.now a.parameters a.budget (range_of a.range) found in
-    record { answers = p.0; promise = p.1 }
-
-pub returns-in-Refused : goal.returns-in-Refused
-returns-in-Refused c =
-    let a = c.args in
-    let refusal = sym (ap over_result c.in-Refused.is) ∙ c.figures_over-over.ensures.visits in
-    let p = promised a.sheet.now a.parameters a.budget (range_of a.range) (answer-refused a.sheet.now a.parameters a.budget (range_of a.range) refusal) in
     record { answers = p.0; promise = p.1 }

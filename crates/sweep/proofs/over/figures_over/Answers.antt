@@ -1,25 +1,17 @@
 -- What fills the arrays says what they hold; where the range is refused they are cleared.
-use mathlib.Core.Path.{refl, ap}
+use Rattle.std.proofs.Common.{sym, ◌∙◌}
 use Rattle.ranges.specs.Extremes.{leasts_of, mosts_of}
-use Rattle.sweep.specs.Overs.{over_result}
-use Rattle.sweep.proofs.Overs.{arrays-filled, arrays-blank}
+use Rattle.sweep.proofs.Overs.{arrays-filled, arrays-blank, refusal_in, visits_in}
 use Rattle.sweep.proofs.over.figures_over.Goals as goal
 
-pub fill_range-over-requires : goal.fill_range-over-requires
-fill_range-over-requires c = (refl, refl)
-
-pub returns-in-Visits : goal.returns-in-Visits
-returns-in-Visits c =
+pub returns-then-is_err : goal.returns-then-is_err
+returns-then-is_err c =
     let filled = c.fill_range-over.ensures in
-    let arrays = arrays-filled (ap over_result c.in-Visits.is) filled in
+    let e = (refusal_in c.fill_range-over.result (sym c.is_err.ensures.value ∙ c.if-is_err.true)).2 in
+    record { visits = filled.visits; leasts = arrays-blank leasts_of e filled; mosts = arrays-blank mosts_of e filled }
+
+pub returns-else-is_err : goal.returns-else-is_err
+returns-else-is_err c =
+    let filled = c.fill_range-over.ensures in
+    let arrays = arrays-filled (visits_in c.fill_range-over.result (sym c.is_err.ensures.value ∙ c.if-is_err.false)).1 filled in
     record { visits = filled.visits; leasts = arrays.0; mosts = arrays.1 }
-
-pub returns-in-Refused : goal.returns-in-Refused
-returns-in-Refused c =
-    let filled = c.fill_range-over.ensures in
-    let e = ap over_result c.in-Refused.is in
-    record {
-      visits = filled.visits;
-      leasts = arrays-blank leasts_of e filled;
-      mosts = arrays-blank mosts_of e filled;
-    }
