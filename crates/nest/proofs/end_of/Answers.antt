@@ -2,16 +2,13 @@
 use native.Mathlib.Omega.{arith}
 use mathlib.Core.Path.{sym, ◌∙◌}
 use Rattle.nest.specs.Roles.{end_of_role}
-use Rattle.nest.proofs.Endings.{ending-start, ending-done, ending-few, ending_at, ending-found, ending-next, next-by-kind, next-inside}
+use Rattle.nest.proofs.Endings.{ending-done, ending-few, ending_at, ending-found, ending-next, next-by-kind, next-inside}
 use Prim.Native.Nat.{◌+◌, ◌^◌, ◌<◌}
 use Rattle.nest.proofs.end_of.Goals as goal
 
 pub returns-then-not-opens : goal.returns-then-not-opens
 unfolding end_of_role
 returns-then-not-opens c = let closed = sym c.opens.ensures ∙ c.if-not-opens.true in rw closed
-
-pub loop-i-init : goal.loop-i-init
-loop-i-init c = ending-start c.requires
 
 pub open_after-opened-requires : goal.open_after-opened-requires
 open_after-opened-requires c = let few = ending-few c.loop-i.invariant in omega arith

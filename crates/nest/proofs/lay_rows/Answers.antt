@@ -9,9 +9,6 @@ use Rattle.nest.proofs.lay_rows.Goals as goal
 pub loop-number-init : goal.loop-number-init
 loop-number-init c = laying-start c.args.rows.now c.requires c.nothing-here.ensures
 
-pub row_of-row-requires : goal.row_of-row-requires
-row_of-row-requires c = laying-at c.loop-number.invariant c.loop-number-test.true
-
 pub enclosing_after-enclosing-requires : goal.enclosing_after-enclosing-requires
 enclosing_after-enclosing-requires c =
     omega (arith, present (laying-at c.loop-number.invariant c.loop-number-test.true), few-records c.args.sheet.now)

@@ -1,5 +1,5 @@
 -- The rows of the three loops that can stand around get their pushes on the new index; then its own row is stored, with its stride alone.
-use mathlib.Core.Path.{◌≡◌, refl, ap, ◌∙◌}
+use mathlib.Core.Path.{◌≡◌, ap, ◌∙◌}
 use mathlib.Core.List.{[], ◌∷◌}
 use native.Mathlib.Omega.{arith}
 use lib.IntN.{pos}
@@ -7,17 +7,9 @@ use lib.ListN.{set}
 use mir.Facts.{to_z-of_z}
 use Rattle.form.specs.Forms.{wide_form}
 use Rattle.loops.specs.Reckoned.{pushes_with, own_row}
-use Rattle.loops.proofs.Pushes.{pushed_rows, pushed-next}
+use Rattle.loops.proofs.Pushes.{pushed_rows}
 use mir.Syntax.{w64}
 use Rattle.loops.proofs.forms.pushes_with.Goals as goal
-
-pub loop-m-init : goal.loop-m-init
-loop-m-init c = refl
-
-pub loop-m-preserved : goal.loop-m-preserved
-loop-m-preserved c =
-    let given = c.args in
-    pushed-next (wide_form given.forms.lower) given.pushes given.depth c.loop-m.m c.loop-m.invariant c.row_with.ensures
 
 pub returns : goal.returns
 unfolding pushes_with own_row
