@@ -17,11 +17,11 @@ ghost use Rattle.text.specs.Limits.{text_limit};
 use crate::lines::{FIGURES_LINE_LENGTH, REPORT_LENGTH, put_figures_line, put_refusal_line};
 use crate::loop_lines::put_loops;
 use encoding::number::{signed16_at, unsigned32_at};
-use figures::{Answer, cycles};
+use figures::cycles;
 use form::Parameters;
 use layout::MAX_LOOPS;
 use records::MAX_SHEET_LENGTH;
-use sheet::refusal::Refusal;
+use sheet::refusal::{Refusal, RefusalKind};
 
 // Four parameters of 2 bytes each and a budget of 4 bytes stand before the sheet.
 const HEADER_LENGTH: usize = 12;
@@ -54,13 +54,12 @@ fn put_answer(sheet: &[u8], parameters: Parameters, budget: u32, buffer: &mut [u
     ensures { Appended buffer.old 0
         (answer_text (answer sheet.now parameters budget) (reports_of parameters (read sheet.now))) buffer.new result }
 {
-    let a = cycles(sheet, parameters, budget);
-    match a {
-        Answer::Figured(f) => {
-            let at = put_figures_line(buffer, 0, f);
+    match cycles(sheet, parameters, budget) {
+        Ok(figures) => {
+            let at = put_figures_line(buffer, 0, figures);
             put_loops(sheet, parameters, buffer, at)
         }
-        Answer::Refused(r) => put_refusal_line(buffer, 0, r),
+        Err(refusal) => put_refusal_line(buffer, 0, refusal),
     }
 }
 
@@ -78,7 +77,7 @@ pub fn program_text(input: &[u8], buffer: &mut Text) -> usize
             buffer,
             0,
             Refusal {
-                number: 1,
+                kind: RefusalKind::CutShort,
                 offset: 0,
             },
         );

@@ -6,17 +6,17 @@ use Rattle.reasons.specs.View.{found_in}
 use Rattle.encoding.proofs.Appending.{nothing, same_bytes}
 use Rattle.text.proofs.lines.put_reason.Goals as goal
 
-pub returns-in-Because : goal.returns-in-Because
+pub returns-in-Some : goal.returns-in-Some
 unfolding reason_lines
-returns-in-Because c =
+returns-in-Some c =
     record {
-      appended = same_bytes (sym (ap (λ f. reason_lines (found_in f)) c.in-Because.is)) c.put_reason_line.ensures.appended;
+      appended = same_bytes (sym (ap (λ f. reason_lines (found_in f)) c.in-Some.is)) c.put_reason_line.ensures.appended;
       short = c.put_reason_line.ensures.short.1;
     }
 
-pub returns-in-Nothing : goal.returns-in-Nothing
+pub returns-in-None : goal.returns-in-None
 unfolding reason_lines
-returns-in-Nothing c = record {
-  appended = same_bytes (sym (ap (λ f. reason_lines (found_in f)) c.in-Nothing.is)) (nothing (omega arith));
+returns-in-None c = record {
+  appended = same_bytes (sym (ap (λ f. reason_lines (found_in f)) c.in-None.is)) (nothing (omega arith));
   short = omega arith;
 }

@@ -12,27 +12,26 @@ use Rattle.text.proofs.loop_lines.put_loop_lines.Goals as goal
 pub loop-number-init : goal.loop-number-init
 loop-number-init c =
     let a = c.args in
-    (omega arith, same_bytes (no_lines a.rows.now a.differences.now a.facts.now a.limits.now) (nothing (omega arith)), omega arith, refl)
+    (same_bytes (no_lines a.arrays.now) (nothing (omega arith)), omega arith, refl)
 
 pub put_record_lines-at-requires : goal.put_record_lines-at-requires
 put_record_lines-at-requires c =
     let l = c.loop-number in
     let a = c.args in
     let left = a.count - (l.number + 1) in
-    let grows = count-grows a.rows.now a.differences.now a.facts.now a.limits.now (l.number + 1) left in
-    let all = ap (λ n. length (reports_before a.rows.now a.differences.now a.facts.now a.limits.now n))
+    let grows = count-grows a.arrays.now (l.number + 1) left in
+    let all = ap (λ n. length (reports_before a.arrays.now n))
     (let e : l.number + 1 + left ≡ a.count = omega (arith, c.loop-number-test.true) in e) in
-    omega (arith, next-count a.rows.now a.differences.now a.facts.now a.limits.now l.number, grows, all, l.invariant, c.requires)
+    omega (arith, next-count a.arrays.now l.number, grows, all, l.invariant, c.requires)
 
 pub loop-number-preserved : goal.loop-number-preserved
 loop-number-preserved c =
     let l = c.loop-number in
     let a = c.args in
     let line = c.put_record_lines-at.ensures in
-    let added = and_then l.invariant.1 line.appended in (
-      omega arith,
-      same_bytes (next-lines a.rows.now a.differences.now a.facts.now a.limits.now l.number) added,
-      omega (arith, line.short, l.invariant.2, next-count a.rows.now a.differences.now a.facts.now a.limits.now l.number),
+    let added = and_then l.invariant.0 line.appended in (
+      same_bytes (next-lines a.arrays.now l.number) added,
+      omega (arith, line.short, l.invariant.1, next-count a.arrays.now l.number),
       keeps-length added,
     )
 
@@ -40,5 +39,5 @@ pub returns : goal.returns
 returns c =
     let l = c.loop-number in
     let a = c.args in
-    let all : l.number ≡ a.count = omega arith in
-    same_bytes (ap (λ n. loop_lines (reports_before a.rows.now a.differences.now a.facts.now a.limits.now n)) all) l.invariant.1
+    let all : l.number ≡ a.count = omega (arith, c.loop-number-test.false) in
+    same_bytes (ap (λ n. loop_lines (reports_before a.arrays.now n)) all) l.invariant.0

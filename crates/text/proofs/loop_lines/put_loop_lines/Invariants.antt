@@ -1,6 +1,6 @@
--- The invariant: the lines of the first `number` records are appended. The measure is how many are left.
+-- The invariant: the lines of the first `number` records are appended.
 use mathlib.Core.Path.{◌≡◌}
-use Prim.Native.Nat.{◌+◌, ◌*◌, ◌-◌, ◌≤◌}
+use Prim.Native.Nat.{◌+◌, ◌*◌, ◌≤◌}
 use lib.ListN.{length}
 use Rattle.meaning.specs.Program.{loop_lines}
 use Rattle.encoding.specs.Append.{Appended}
@@ -10,9 +10,6 @@ use Rattle.text.proofs.loop_lines.put_loop_lines.Given as goal
 
 abbrev pub invariant-loop-number : goal.invariant-loop-number
 invariant-loop-number l =
-    (l.number ≤ l.count) × Appended l.initial.buffer l.start (loop_lines (reports_before l.rows l.differences l.facts l.limits l.number)) l.buffer l.at
-    × (l.at ≤ l.start + report_limit * length (reports_before l.rows l.differences l.facts l.limits l.number))
+    Appended l.initial.buffer l.start (loop_lines (reports_before l.arrays l.number)) l.buffer l.at
+    × (l.at ≤ l.start + report_limit * length (reports_before l.arrays l.number))
     × (length l.buffer ≡ length l.initial.buffer)
-
-abbrev pub decreases-loop-number : goal.decreases-loop-number
-decreases-loop-number l = l.count - l.number

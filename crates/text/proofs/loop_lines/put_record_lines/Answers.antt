@@ -10,20 +10,20 @@ use Rattle.text.proofs.loop_lines.put_record_lines.Goals as goal
 
 pub put_report-requires : goal.put_report-requires
 put_report-requires c =
-    let one = ap length (sym (ap report_in c.in-OfLoop.is) ∙ c.report_of-report.ensures) in
+    let one = ap length (sym (ap report_in c.in-Some.is) ∙ c.report_of.ensures) in
     omega (arith, one, c.requires)
 
-pub returns-in-OfLoop : goal.returns-in-OfLoop
-returns-in-OfLoop c =
-    let reported = sym (ap report_in c.in-OfLoop.is) ∙ c.report_of-report.ensures in record {
-      appended = same_bytes (one-report (loop_report_in c.in-OfLoop.l) ∙ ap loop_lines reported) c.put_report.ensures.appended;
+pub returns-in-Some : goal.returns-in-Some
+returns-in-Some c =
+    let reported = sym (ap report_in c.in-Some.is) ∙ c.report_of.ensures in record {
+      appended = same_bytes (one-report (loop_report_in c.in-Some.report) ∙ ap loop_lines reported) c.put_report.ensures.appended;
       short = omega (arith, ap length reported, c.put_report.ensures.short);
     }
 
-pub returns-in-Nothing : goal.returns-in-Nothing
+pub returns-in-None : goal.returns-in-None
 unfolding loop_lines
-returns-in-Nothing c =
-    let none = sym (ap report_in c.in-Nothing.is) ∙ c.report_of-report.ensures in
+returns-in-None c =
+    let none = sym (ap report_in c.in-None.is) ∙ c.report_of.ensures in
     record {
       appended = same_bytes (ap loop_lines none) (nothing (omega arith));
       short = omega arith;
