@@ -1,5 +1,5 @@
 -- What a call leaves, as a definition says it.
-use mathlib.Core.Path.{◌≡◌, sym, ap}
+use mathlib.Core.Path.{◌≡◌, sym, ap, subst}
 use mathlib.Core.List.{List}
 use Prim.Native.Nat.{ℕ}
 use Rattle.meaning.specs.Lent.{Lent}
@@ -11,3 +11,7 @@ Leaves called number buffer area = (number ≡ called.number) × ((buffer ≡ ca
 pub leaves_by : {called : Lent} {number : ℕ} {buffer area : List ℕ} → called ≡ record { number = number; buffer = buffer; area = area } →
     Leaves called number buffer area
 leaves_by e = (sym (ap (λ (c : Lent). c.number) e), (sym (ap (λ (c : Lent). c.buffer) e), sym (ap (λ (c : Lent). c.area) e)))
+
+-- the same of a number that is told to be another
+pub by-number : (P : ℕ → Type 0) {n m : ℕ} → n ≡ m → P m → P n
+by-number P e p = subst P (sym e) p

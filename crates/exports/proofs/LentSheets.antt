@@ -2,7 +2,7 @@
 use mathlib.Core.Path.{◌≡◌, sym, ap, subst, ◌∙◌}
 use mathlib.Core.List.{List, ◌++◌}
 use mathlib.Core.Bool.{Bool}
-use Prim.Native.Nat.{ℕ, ◌-◌, ◌≤◌, ◌<◌}
+use Prim.Native.Nat.{ℕ, ◌≤◌, ◌<◌}
 use native.Mathlib.Omega.{arith}
 use lib.Dec.{leb}
 use lib.ListN.{length, take, drop}
@@ -66,7 +66,7 @@ module _ (new : Result (List Record)) (buffer area : List ℕ) where
       -- the new sheet, from where it was laid out, and its length
       pub left-sheet : n ≤ length buffer → (blank : List ℕ) {target : List ℕ} →
           ((new' : List Record) → new ≡ ok new' → target ≡ sheet_bytes new' ++ drop (length (sheet_bytes new')) blank) → {after filled : List ℕ} {end : ℕ} →
-          Appended buffer 0 (take (n - 0) target) after end → filled ≡ little_endian length_size n ++ drop length_size area → Left 0 after filled
+          Appended buffer 0 (take n target) after end → filled ≡ little_endian length_size n ++ drop length_size area → Left 0 after filled
       unfolding fit_sheet store_lent
       left-sheet h blank laid put f =
           let fits : length (sheet_bytes rs) ≤ length buffer = omega (arith, (there-are new long).2) in

@@ -3,11 +3,11 @@ ghost use Rattle.std.specs.Prelude.{◌≡◌};
 ghost use Rattle.meaning.specs.ConverterCall.{convert_call};
 ghost use Rattle.converter.specs.Converting.{new_records};
 
-use crate::area::{LENGTH_SIZE, SHORT_AREA, put_length};
+use crate::area::{LENGTH_SIZE, put_length};
 use converter::{Sheet, convert};
 use encoding::put::put;
 use records::MAX_SHEET_LENGTH;
-use writer::WriteAnswer;
+use sheet::refusal::RefusalKind;
 
 // The sheet with a skip in every loop, or in none, and its length. Refusals 1 to 5 and 10 come first, then 9; nothing is written before.
 pub(crate) fn store_sheet(sheet: &[u8], skips: bool, buffer: &mut [u8], answer: &mut [u8]) -> u32
@@ -18,19 +18,15 @@ pub(crate) fn store_sheet(sheet: &[u8], skips: bool, buffer: &mut [u8], answer: 
         (convert_call (new_records skips sheet.now) buffer.old answer.old).area }
 {
     let mut target: Sheet = [0; MAX_SHEET_LENGTH];
-    let converted = convert(sheet, skips, &mut target);
-    match converted {
-        WriteAnswer::Length(length) => {
-            if answer.len() < LENGTH_SIZE {
-                return SHORT_AREA;
+    match convert(sheet, skips, &mut target) {
+        Ok(length) => {
+            if answer.len() < LENGTH_SIZE || buffer.len() < length {
+                return RefusalKind::ShortBuffer.number();
             }
-            if buffer.len() < length {
-                return SHORT_AREA;
-            }
-            put(buffer, 0, &target[0..length]);
+            put(buffer, 0, &target[..length]);
             put_length(answer, length);
             0
         }
-        WriteAnswer::Refused(r) => r.number,
+        Err(refusal) => refusal.kind.number(),
     }
 }

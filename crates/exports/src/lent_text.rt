@@ -6,6 +6,7 @@ ghost use Rattle.meaning.specs.Lent.{store_lent};
 
 use crate::area::put_length;
 use encoding::put::put;
+use sheet::refusal::RefusalKind;
 
 // The text into the lent buffer and its length into the area, or 12.
 pub(crate) fn store_text(text: &[u8], buffer: &mut [u8], answer: &mut [u8]) -> u32
@@ -17,7 +18,7 @@ pub(crate) fn store_text(text: &[u8], buffer: &mut [u8], answer: &mut [u8]) -> u
         (store_lent buffer.old answer.old (fit_text buffer.old text.now)).area }
 {
     if buffer.len() < text.len() {
-        return 12;
+        return RefusalKind::ShortText.number();
     }
     put(buffer, 0, text);
     put_length(answer, text.len());

@@ -22,13 +22,12 @@ ghost use Rattle.ranges.specs.ParameterRange.{parameter_range};
 ghost use Rattle.ranges.specs.RangeCall.{range_call, RangeStored};
 ghost use Rattle.exports.specs.Demand.{Stored};
 
-use crate::area::{
-    AREA_LENGTH, LENGTH_SIZE, RANGE_AREA_LENGTH, SHORT_AREA, put_extremes, put_figures,
-};
+use crate::area::{AREA_LENGTH, LENGTH_SIZE, RANGE_AREA_LENGTH, put_extremes, put_figures};
 use crate::lent_sheet::store_sheet;
 use crate::lent_text::store_text;
-use figures::{Answer, cycles};
-use sweep::extremes::{RangeAnswer, cycles_over_range};
+use figures::cycles;
+use sheet::refusal::RefusalKind;
+use sweep::extremes::cycles_over_range;
 use sweep::values::ParameterRange;
 use text::{TEXT_LENGTH, Text, program_text};
 
@@ -51,15 +50,14 @@ pub fn pumdalin_figures(
         (Library.answer sheet.now (p1 ∷ p2 ∷ p3 ∷ p4 ∷ []) budget) }
 {
     if answer.len() < AREA_LENGTH {
-        return 9;
+        return RefusalKind::ShortBuffer.number();
     }
-    let a = cycles(sheet, [p1, p2, p3, p4], budget);
-    match a {
-        Answer::Figured(f) => {
-            put_figures(answer, f);
+    match cycles(sheet, [p1, p2, p3, p4], budget) {
+        Ok(figures) => {
+            put_figures(answer, figures);
             0
         }
-        Answer::Refused(r) => r.number,
+        Err(refusal) => refusal.kind.number(),
     }
 }
 
@@ -83,20 +81,19 @@ pub fn pumdalin_range(
     ensures promise { RangeStored sheet.now (p1 ∷ p2 ∷ p3 ∷ p4 ∷ []) budget (parameter_range number first last) result answer.new }
 {
     if answer.len() < RANGE_AREA_LENGTH {
-        return SHORT_AREA;
+        return RefusalKind::ShortBuffer.number();
     }
     let range = ParameterRange {
-        number: number,
-        first: first,
-        last: last,
+        number,
+        first,
+        last,
     };
-    let a = cycles_over_range(sheet, [p1, p2, p3, p4], budget, range);
-    match a {
-        RangeAnswer::Found(e) => {
-            put_extremes(answer, e);
+    match cycles_over_range(sheet, [p1, p2, p3, p4], budget, range) {
+        Ok(extremes) => {
+            put_extremes(answer, extremes);
             0
         }
-        RangeAnswer::Refused(r) => r.number,
+        Err(refusal) => refusal.kind.number(),
     }
 }
 
@@ -110,7 +107,7 @@ pub fn pumdalin_text(input: &[u8], text: &mut [u8], answer: &mut [u8]) -> u32
     ensures before { UnlessTooLong (input_sheet input.now) (program_text input.now ≡ program_text_by short_read input.now) }
 {
     if answer.len() < LENGTH_SIZE {
-        SHORT_AREA
+        RefusalKind::ShortBuffer.number()
     } else {
         let mut buffer: Text = [0; TEXT_LENGTH];
         let length = program_text(input, &mut buffer);

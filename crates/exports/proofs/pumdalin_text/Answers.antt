@@ -4,7 +4,8 @@ use native.Mathlib.Omega.{arith}
 use lib.ListN.{take}
 use lib.Seq.{length-take-le, take-append_seam}
 use Rattle.meaning.specs.Program.{program_text}
-use Rattle.exports.proofs.LentTexts.{promised-short, promised-stored}
+use Rattle.exports.proofs.Leaving.{by-number}
+use Rattle.exports.proofs.LentTexts.{Promised, promised-short, promised-stored}
 use Rattle.exports.proofs.pumdalin_text.Goals as goal
 
 pub slice_bounds-store_text-end : goal.slice_bounds-store_text-end
@@ -16,7 +17,8 @@ pub returns-then-answer-lt-LENGTH_SIZE : goal.returns-then-answer-lt-LENGTH_SIZE
 returns-then-answer-lt-LENGTH_SIZE c =
     let a = c.args in
     let l =
-    promised-short a.input.now a.text.now a.answer.now c.if-answer-lt-LENGTH_SIZE.true in
+    by-number (λ n. Promised a.input.now a.text.now a.answer.now n a.text.now a.answer.now) c.number.ensures
+    (promised-short a.input.now a.text.now a.answer.now c.if-answer-lt-LENGTH_SIZE.true) in
     record { number = l.0; text = l.1.0; area = l.1.1.0; reads = l.1.1.1.0; reasons = l.1.1.1.1.0; before = l.1.1.1.1.1 }
 
 pub returns-else-answer-lt-LENGTH_SIZE : goal.returns-else-answer-lt-LENGTH_SIZE

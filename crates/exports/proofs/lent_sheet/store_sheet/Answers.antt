@@ -1,6 +1,8 @@
--- The refusal of the sheet or its records; 9 of the area, 9 of the buffer; or the new sheet and its length.
+-- The refusal of the sheet or its records; 9 of the area or of the buffer; or the new sheet and its length.
 use mathlib.Core.Path.{sym, ap, ◌∙◌}
-use Rattle.writer.specs.Answers.{write_result}
+use mathlib.Core.Logic.{⊎_elim}
+use lib.Seq.{length-take-le}
+use Rattle.sheet.specs.Answers.{refusable}
 use Rattle.converter.specs.Converting.{new_records}
 use Rattle.converter.proofs.Conversions.{length-fits}
 use Rattle.exports.proofs.LentSheets.{left-refused, left-area, left-short, left-sheet}
@@ -10,42 +12,35 @@ pub returns-then-answer-lt-LENGTH_SIZE : goal.returns-then-answer-lt-LENGTH_SIZE
 returns-then-answer-lt-LENGTH_SIZE c =
     let given = c.args in
     let new = new_records given.skips given.sheet.now in
-    let long = sym (ap write_result c.in-Length.is) ∙ c.convert-converted.ensures.answer in
+    let long = sym (ap refusable c.in-Ok.is) ∙ c.convert.ensures.answer in
     let l =
-    left-area new given.buffer.now given.answer.now long c.if-answer-lt-LENGTH_SIZE.true in
-    record { number = l.0; sheet = l.1.0; area = l.1.1 }
+    ⊎_elim (λ h. left-area new given.buffer.now given.answer.now long h) (λ w. left-short new given.buffer.now given.answer.now long w.0 w.1)
+    c.then-answer-lt-LENGTH_SIZE.either in
+    record { number = c.number.ensures ∙ l.0; sheet = l.1.0; area = l.1.1 }
 
-pub returns-then-buffer-length : goal.returns-then-buffer-length
-returns-then-buffer-length c =
-    let given = c.args in
-    let new = new_records given.skips given.sheet.now in
-    let long = sym (ap write_result c.in-Length.is) ∙ c.convert-converted.ensures.answer in
-    let l =
-    left-short new given.buffer.now given.answer.now long c.if-answer-lt-LENGTH_SIZE.false c.if-buffer-length.true in
-    record { number = l.0; sheet = l.1.0; area = l.1.1 }
+pub slice_bounds-target-end : goal.slice_bounds-target-end
+slice_bounds-target-end c =
+    let new = new_records c.args.skips c.args.sheet.now in
+    length-fits new (sym (ap refusable c.in-Ok.is) ∙ c.convert.ensures.answer) _ c.convert.ensures.laid
 
 pub slice_bounds-put-end : goal.slice_bounds-put-end
 slice_bounds-put-end c =
-    let given = c.args in
-    let new = new_records given.skips given.sheet.now in
-    let long = sym (ap write_result c.in-Length.is) ∙ c.convert-converted.ensures.answer in
-    length-fits new long _ c.convert-converted.ensures.laid
+    let new = new_records c.args.skips c.args.sheet.now in
+    sym (length-take-le _ _ (length-fits new (sym (ap refusable c.in-Ok.is) ∙ c.convert.ensures.answer) _ c.convert.ensures.laid))
 
 pub returns-else-buffer-length : goal.returns-else-buffer-length
 returns-else-buffer-length c =
     let given = c.args in
     let new = new_records given.skips given.sheet.now in
-    let long = sym (ap write_result c.in-Length.is) ∙ c.convert-converted.ensures.answer in
+    let long = sym (ap refusable c.in-Ok.is) ∙ c.convert.ensures.answer in
     let l =
-    left-sheet new given.buffer.now given.answer.now long c.if-answer-lt-LENGTH_SIZE.false c.if-buffer-length.false _ c.convert-converted.ensures.laid
+    left-sheet new given.buffer.now given.answer.now long c.if-answer-lt-LENGTH_SIZE.false c.if-buffer-length.false _ c.convert.ensures.laid
     c.put.ensures c.put_length.ensures in
     record { number = l.0; sheet = l.1.0; area = l.1.1 }
 
-pub returns-in-Refused : goal.returns-in-Refused
-returns-in-Refused c =
+pub returns-in-Err : goal.returns-in-Err
+returns-in-Err c =
     let given = c.args in
     let new = new_records given.skips given.sheet.now in
-    let long = sym (ap write_result c.in-Refused.is) ∙ c.convert-converted.ensures.answer in
-    let l =
-    left-refused new given.buffer.now given.answer.now long in
-    record { number = l.0; sheet = l.1.0; area = l.1.1 }
+    let l = left-refused new given.buffer.now given.answer.now (sym (ap refusable c.in-Err.is) ∙ c.convert.ensures.answer) in
+    record { number = c.number-in-Err.ensures ∙ l.0; sheet = l.1.0; area = l.1.1 }
