@@ -12,7 +12,7 @@ unfolding little_endian value_bytes
 extreme-length n z = refl
 
 pub put_extreme-at-requires-2 : goal.put_extreme-at-requires-2
-put_extreme-at-requires-2 c = omega (arith, keeps-length c.put_extreme-at.ensures, c.put_extreme-at.ensures.ends, extreme-length c.args.e.least.cycles c.args.e.least.value)
+put_extreme-at-requires-2 c = omega (arith, keeps-length c.put_extreme-at.ensures, c.put_extreme-at.ensures.ends, extreme-length)
 
 pub put-requires : goal.put-requires
 put-requires c =
@@ -20,10 +20,9 @@ put-requires c =
       arith,
       keeps-length c.put_extreme-at.ensures,
       c.put_extreme-at.ensures.ends,
-      extreme-length c.args.e.least.cycles c.args.e.least.value,
       keeps-length c.put_extreme-at-2.ensures,
       c.put_extreme-at-2.ensures.ends,
-      extreme-length c.args.e.most.cycles c.args.e.most.value,
+      extreme-length,
     )
 
 pub returns : goal.returns
