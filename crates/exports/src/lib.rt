@@ -1,4 +1,5 @@
 // The calls that crate exports_c exports to C.
+// Numbers for refusals, and parameters one by one, stay since C's header has them so.
 #![tactic(auto)]
 
 mod area;

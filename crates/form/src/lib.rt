@@ -98,6 +98,7 @@ fn end(factor: i16, lo: i64, hi: i64) -> i64
 }
 
 // The smallest that the indexes add to a form's value, where each lies between its lo and its hi; where the ends are exchanged, the largest.
+// Stays over two arrays, since the largest is asked by exchanging them.
 fn smallest(index: [i16; INDEX_FACTORS], lo: PerLoop, hi: PerLoop) -> i64
     ensures { (result ≡ (dot_range index (ranges_between (map bounded lo) (map bounded hi))).lo) × (nat_abs result ≤ index_factors * 2 ^ 61) }
 {

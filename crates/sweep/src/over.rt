@@ -74,6 +74,7 @@ fn fill(
 }
 
 // In the order 11, 7, then 1 to 6 of the first value that has one, then 8 for the sum of the visits.
+// What is asked stays parameters of their own here and inward, since `figures_over` takes them so and its clauses name them.
 fn fill_range(
     sheet: &[u8],
     parameters: Parameters,
