@@ -1,52 +1,45 @@
 // Whether the library call and the C call answer as reckoned.
-use crate::cases::Case;
-use crate::compare::{same_bytes, still_filled};
-use crate::numbers::{parameters_in, unsigned64_at};
+use cases::answers::{FILL, holds};
+use cases::headers::Case;
+use cases::numbers::{parameters_in, unsigned64_at};
 use encoding::number::unsigned32_at;
 use exports::pumdalin_figures;
-use figures::{Answer, Figures, cycles};
+use figures::{Figures, cycles};
 
-// Parameters, budget and answer area: how many bytes follow the sheet.
-pub(crate) const CALL: usize = 36;
+// How many bytes what is given takes, parameters and a budget, and how many the stored answer area after it.
+const GIVEN: usize = 12;
 
-fn same_figures(f: Figures, given: &[u8]) -> bool {
-    let least = f.least == unsigned64_at(given, 12);
-    let most = f.most == unsigned64_at(given, 20);
-    let visits = f.visits == unsigned64_at(given, 28);
-    least && most && visits
+const AREA: usize = 24;
+
+// How many bytes follow the sheet.
+pub(crate) const CALL: usize = GIVEN + AREA;
+
+fn budget_in(given: &[u8]) -> u32 {
+    unsigned32_at(given, 8)
 }
 
-fn library_agrees(case: Case, sheet: &[u8], given: &[u8]) -> bool {
-    let answer = cycles(sheet, parameters_in(given), unsigned32_at(given, 8));
-    match answer {
-        Answer::Figured(f) => case.number == 0 && same_figures(f, given),
-        Answer::Refused(r) => r.number == (case.number as u32) && r.offset == case.value,
-    }
+fn library_agrees(case: Case, sheet: &[u8], given: &[u8], stored: &[u8]) -> bool {
+    let figures = Figures {
+        least: unsigned64_at(stored, 0),
+        most: unsigned64_at(stored, 8),
+        visits: unsigned64_at(stored, 16),
+    };
+    let answer = cycles(sheet, parameters_in(given), budget_in(given));
+    case.has_answer(answer, figures)
 }
 
-// The answer area is larger than it has to be: what follows the 24th byte has to stay.
-fn c_agrees(case: Case, sheet: &[u8], given: &[u8]) -> bool {
-    let mut area: [u8; 40] = [167; 40];
-    let p = parameters_in(given);
-    let budget = unsigned32_at(given, 8);
-    let number = pumdalin_figures(sheet, p[0], p[1], p[2], p[3], budget, &mut area);
-    if number != (case.number as u32) {
+// The area that is lent is longer than it has to be: what follows its 24th byte has to stay, and all of it where the call refuses.
+fn c_agrees(case: Case, sheet: &[u8], given: &[u8], stored: &[u8]) -> bool {
+    let mut area = [FILL; 40];
+    let [p1, p2, p3, p4] = parameters_in(given);
+    let number = pumdalin_figures(sheet, p1, p2, p3, p4, budget_in(given), &mut area);
+    let stored = if number == 0 { stored } else { &[] };
+    number == u32::from(case.number) && holds(&area, stored)
+}
+
+pub(crate) fn calls_agree(case: Case, sheet: &[u8], own: &[u8]) -> bool {
+    let Some((given, stored)) = own.split_at_checked(GIVEN) else {
         return false;
-    }
-    if number != 0 {
-        return still_filled(&area, 0);
-    }
-    same_bytes(&area, rest(given), 24) && still_filled(&area, 24)
-}
-
-// The answer area in what follows the sheet.
-fn rest(given: &[u8]) -> &[u8] {
-    if given.len() < 12 {
-        return &given[..0];
-    }
-    &given[12..]
-}
-
-pub(crate) fn calls_agree(case: Case, sheet: &[u8], given: &[u8]) -> bool {
-    library_agrees(case, sheet, given) && c_agrees(case, sheet, given)
+    };
+    library_agrees(case, sheet, given, stored) && c_agrees(case, sheet, given, stored)
 }

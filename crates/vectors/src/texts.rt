@@ -1,41 +1,39 @@
-// Whether the text call stores what is reckoned.
-use crate::cases::Case;
-use crate::compare::{same_bytes, still_filled};
-use crate::numbers::unsigned64_at;
+// Whether the text call, and what a C call leaves in two buffers that it is lent, are as reckoned.
+use cases::answers::{FILL, holds};
+use cases::headers::Case;
 use exports::pumdalin_text;
 use text::TEXT_LENGTH;
 
-// The text call on the first bytes of two spaces.
-fn text_into(
-    input: &[u8],
-    space: &mut [u8],
-    room: usize,
-    area: &mut [u8],
-    area_room: usize,
-) -> u32 {
-    if space.len() < room {
-        return 0;
-    }
-    if area.len() < area_room {
-        return 0;
-    }
-    pumdalin_text(input, &mut space[..room], &mut area[..area_room])
-}
-
-// What a call left: a text or a sheet and its length at the start of the two spaces, and every other byte as it was; a refusal leaves
-// all of them.
-pub(crate) fn lent_agrees(number: u32, space: &[u8], area: &[u8], stored: &[u8]) -> bool {
-    if number != 0 {
-        return still_filled(space, 0) && still_filled(area, 0);
-    }
-    let length = stored.len();
-    let told = unsigned64_at(area, 0) == (length as u64) && still_filled(area, 8);
-    told && same_bytes(space, stored, length) && still_filled(space, length)
+// Whether a C call returns the number and leaves what is stored: a text or a sheet and its length at the start of the two spaces, and every
+// other byte as it was; a refusal leaves all of them.
+pub(crate) fn lent_agrees<F: FnOnce(&mut [u8], &mut [u8]) -> u32>(
+    case: Case,
+    number: u8,
+    stored: &[u8],
+    call: F,
+) -> bool
+    requires { F.IsAlwaysCallable call }
+{
+    let mut space = [FILL; TEXT_LENGTH];
+    let mut area = [FILL; 32];
+    let Some(buffer) = space.get_mut(..case.buffer) else {
+        return false;
+    };
+    let Some(answer) = area.get_mut(..case.count) else {
+        return false;
+    };
+    let returned = call(buffer, answer);
+    let left = if returned == 0 {
+        let length = stored.len() as u64;
+        holds(&space, stored) && holds(&area, &length.to_le_bytes())
+    } else {
+        holds(&space, &[]) && holds(&area, &[])
+    };
+    returned == u32::from(number) && left
 }
 
 pub(crate) fn text_agrees(case: Case, input: &[u8], text: &[u8]) -> bool {
-    let mut space: [u8; TEXT_LENGTH] = [167; TEXT_LENGTH];
-    let mut area: [u8; 32] = [167; 32];
-    let number = text_into(input, &mut space, case.buffer, &mut area, case.count);
-    number == (case.number as u32) && lent_agrees(number, &space, &area, text)
+    lent_agrees(case, case.number, text, |buffer, area| {
+        pumdalin_text(input, buffer, area)
+    })
 }
