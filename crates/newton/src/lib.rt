@@ -5,7 +5,7 @@ ghost use Rattle.std.specs.Prelude.{◌≡◌, ◌^◌, min, if◌then◌else◌
 ghost use Rattle.whole.specs.Integer.{floor_remainder};
 ghost use Rattle.whole.specs.Newton.{choose};
 ghost use Rattle.meaning.specs.Limits.{ceiling_limit};
-ghost use Rattle.newton.specs.Weights.{weights_of, weighted_sum};
+ghost use Rattle.newton.specs.Weights.{weights_of, differences_of, weighted_sum};
 
 use records::loops::Loop;
 
@@ -59,9 +59,9 @@ pub fn weights_of(n: u64, known: u64) -> Weights
     }
 }
 
-// The first differences of four values, each times its weight (003, equation 4), modulo 2^64.
-pub fn weighted_sum(w: Weights, values: [u64; 4]) -> u64
-    ensures { result ≡ floor_remainder (weighted_sum w values) (2 ^ 64) }
+// The first of four values, and the first of their differences of orders 1 to 3, modulo 2^64.
+pub fn differences(values: [u64; 4]) -> [u64; 4]
+    ensures { result ≡ differences_of values }
 {
     let [first, second, third, fourth] = values;
     let first_difference = second.wrapping_sub(first);
@@ -70,6 +70,14 @@ pub fn weighted_sum(w: Weights, values: [u64; 4]) -> u64
     let second_difference = next_first.wrapping_sub(first_difference);
     let next_second = last_first.wrapping_sub(next_first);
     let third_difference = next_second.wrapping_sub(second_difference);
+    [first, first_difference, second_difference, third_difference]
+}
+
+// The first differences of four values, each times its weight (003, equation 4), modulo 2^64.
+pub fn weighted_sum(w: Weights, values: [u64; 4]) -> u64
+    ensures { result ≡ floor_remainder (weighted_sum w values) (2 ^ 64) }
+{
+    let [first, first_difference, second_difference, third_difference] = differences(values);
     let by_one = first.wrapping_mul(w.one);
     let by_two = first_difference.wrapping_mul(w.two);
     let by_three = second_difference.wrapping_mul(w.three);

@@ -1,7 +1,6 @@
--- Each difference, product and sum wraps, so that what is left is the remainder of the exact sum by 2^64.
-use Rattle.std.proofs.Common.{rules}
+-- Each product and each sum wraps, so that what is left is the remainder of the exact sum by 2^64.
 use Rattle.newton.proofs.Sum.{wrapped_sum}
 use Rattle.newton.proofs.weighted_sum.Goals as goal
 
 pub returns : goal.returns
-returns c = wrapped_sum c.args.w c.args.values (search rules)
+returns c = wrapped_sum c.args.w c.args.values c.differences.ensures
