@@ -1,5 +1,5 @@
 -- Rows: what the reader says of each record, as numbers, and the numbers read by position.
-use Rattle.std.specs.Prelude.{List, [], ◌∷◌, ℕ, zero, suc, ◌+◌, ◌*◌, ◌-◌, ◌/◌, ◌%◌, min, cond, eqb, get_or}
+use Rattle.std.specs.Prelude.{List, [], ◌∷◌, ℕ, zero, suc, ◌+◌, ◌*◌, ◌-◌, ◌/◌, ◌%◌, min, cond, eqb, get_or, Option, Some, None}
 use Rattle.meaning.specs.Limits.{record_limit, depth_limit, open_limit}
 use Rattle.meaning.specs.Record.{Kind, work_kind, loop_kind, end_kind, choice_kind, next_arm_kind, skip_cycles, Record, work_record, loop_record, end_record, choice_record, next_arm_record, kind}
 use Rattle.layout.specs.declared.rows.Row.{Row}
@@ -115,6 +115,10 @@ row_from number = number % record_limit * row_width
 -- one number of its row
 unfoldable pub number_in : List ℕ → ℕ → ℕ → ℕ
 number_in rows number column = get_or rows (row_from number + column) 0
+
+-- the record's number that this one more stands for; 0 stands for none
+unfoldable pub around_named : ℕ → Option ℕ
+around_named n = cond (eqb n 0) None (Some (n - 1))
 
 -- ---- by name. What a remainder cuts off here stands in no sheet's plan: with it every list of numbers can be read.
 

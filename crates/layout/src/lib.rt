@@ -20,7 +20,8 @@ use records::MAX_RECORDS;
 // Each loop has an end, so that at most half of the records are loops.
 pub const MAX_LOOPS: usize = MAX_RECORDS / 2;
 
-// All that a plan holds. Stays packed in arrays of numbers, since a call has no heap and the header promises how much stack it takes.
+// All that a plan holds. Stays arrays of packed numbers, since the clauses `rows`, `differences`, `facts` and `limits` of `planner::plan`, which docs/PROOFS.md
+// lists, promise each of these numbers; and a call has no heap.
 #[derive(Drop)]
 pub struct PlanArrays {
     pub rows: Rows,

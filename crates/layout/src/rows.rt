@@ -4,7 +4,7 @@
 ghost use Rattle.std.specs.Prelude.{◌≡◌};
 ghost use Rattle.std.proofs.Math.Seq.{paste};
 ghost use Rattle.layout.specs.Rows.{row_width, row_from, row_numbers};
-ghost use Rattle.layout.specs.Rows.{role_named, role_at, first_at, second_at, entry_cost_at, end_at, after_end_at, enclosing_at, opener_at, frame_at, depth_at, loops_before_at, loop_at, offset_at};
+ghost use Rattle.layout.specs.Rows.{role_named, role_at, first_at, second_at, entry_cost_at, end_at, after_end_at, enclosing_at, around_named, opener_at, frame_at, depth_at, loops_before_at, loop_at, offset_at};
 
 use crate::MAX_LOOPS;
 use form::MAX_DEPTH;
@@ -125,10 +125,17 @@ pub fn put_row(rows: &mut Rows, number: usize, row: Row)
     rows[from..from + ROW_WIDTH].copy_from_slice(&values);
 }
 
+// The number that is stored of a record's role, for any numbers in the rows.
+pub fn role_number_at(rows: &Rows, number: usize) -> u16
+    ensures { result ≡ role_at rows.now number }
+{
+    rows[row_from(number) + PLACE] / OFFSETS
+}
+
 pub fn role_at(rows: &Rows, number: usize) -> Role
     ensures { result ≡ role_named (role_at rows.now number) }
 {
-    Role::of(rows[row_from(number) + PLACE] / OFFSETS)
+    Role::of(role_number_at(rows, number))
 }
 
 // The least of straight work.
@@ -174,18 +181,26 @@ pub fn after_end_at(rows: &Rows, number: usize) -> usize
     end_at(rows, number) + 1
 }
 
-// The number of the record that a record stands in, plus 1; 0 where it stands in none.
-pub fn enclosing_at(rows: &Rows, number: usize) -> u16
+// What is stored of the record that a record stands in: its number plus 1; 0 where it stands in none.
+pub fn enclosing_number_at(rows: &Rows, number: usize) -> u16
     ensures { result ≡ enclosing_at rows.now number }
 {
     rows[row_from(number) + ENDING] / NUMBERS
+}
+
+// The number of the record that a record stands in.
+#[tactic(auto, unfolding(crate::specs::Rows::around_named))]
+pub fn enclosing_at(rows: &Rows, number: usize) -> Option<usize>
+    ensures { result ≡ around_named (enclosing_at rows.now number) }
+{
+    usize::from(enclosing_number_at(rows, number)).checked_sub(1)
 }
 
 // The loop or choice that an end ends, and that a next arm belongs to.
 pub fn opener_at(rows: &Rows, number: usize) -> usize
     ensures { result ≡ opener_at rows.now number }
 {
-    usize::from(enclosing_at(rows, number)).saturating_sub(1) % MAX_RECORDS
+    usize::from(enclosing_number_at(rows, number)).saturating_sub(1) % MAX_RECORDS
 }
 
 // The frame of a loop or choice: one for each record open around it.

@@ -11,7 +11,7 @@ ghost use Rattle.nest.specs.Roles.{role_of_byte, cost_in, skip_cost_in, opens, o
 
 use encoding::number::{byte_at, unsigned16_at};
 use layout::narrow;
-use layout::rows::{Role, Row, Rows, enclosing_at, put_row};
+use layout::rows::{Role, Row, Rows, enclosing_number_at, put_row};
 use records::loops::Loop;
 use records::{Kind, body_length};
 use sheet::head::body_at;
@@ -138,7 +138,7 @@ fn enclosing_after(rows: &Rows, role: Role, number: usize, enclosing: u16) -> u1
     match role {
         Role::Loop | Role::Choice => narrow(number + 1),
         Role::End if enclosing == 0 => 0,
-        Role::End => enclosing_at(rows, usize::from(enclosing - 1)),
+        Role::End => enclosing_number_at(rows, usize::from(enclosing - 1)),
         Role::Straight | Role::NextArm | Role::Unknown => enclosing,
     }
 }

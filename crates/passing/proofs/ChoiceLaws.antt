@@ -1,11 +1,12 @@
 -- A choice's records, passed step by step, and which records are a loop's.
-use Rattle.std.proofs.Common.{◌≡◌, ℕ, ◌+◌, ◌<◌, ◌≤◌, Bool, true, false, not, ◌&&◌, eqb, ltb, List, sym, refl, ap, ◌∙◌, eq-eqb, ne_eqb, le-ltb, lt-ltb}
+use Rattle.std.specs.Prelude.{cond, is_some, None, Some, ◌-◌}
+use Rattle.std.proofs.Common.{◌≡◌, ℕ, ◌+◌, ◌<◌, ◌≤◌, Bool, true, false, not, ◌&&◌, eqb, ltb, List, sym, refl, ap, ◌∙◌, le-ltb, lt-ltb}
 use denote.Enum.Bare.{sameb}
 use Rattle.meaning.specs.Limits.{depth_limit}
 use Rattle.layout.specs.contracts.rows.Role.{the_type}
 use Rattle.layout.specs.declared.rows.Role.{Role}
 use Rattle.layout.specs.Rows.{role_named, role_number, loop_role, end_role, choice_role}
-use Rattle.layout.specs.Rows.{role_at, enclosing_at, opener_at, frame_at, depth_at, loop_at}
+use Rattle.layout.specs.Rows.{role_at, enclosing_at, around_named, opener_at, frame_at, depth_at, loop_at}
 use Rattle.layout.specs.Loops.{some_ranked, ranked_at}
 use Rattle.layout.proofs.Reading.{ranked-by}
 use Rattle.layout.proofs.Roles.{role-true, role-false, role-test}
@@ -65,6 +66,16 @@ module _ (rows : List ℕ) (s : State) (frame : ℕ) {passed : Open} (joins : pa
 
 -- ---- whether the arms of a choice are kept, test by test
 
+around-none : (n : ℕ) (alone : Bool) → is_some (around_named n) ≡ not alone → alone ≡ eqb n 0
+unfolding around_named
+around-none n alone e = go (eqb n 0) alone e
+  where
+    go : (none alone : Bool) → is_some (cond none None (Some (n - 1))) ≡ not alone → alone ≡ none
+    go true true e = refl
+    go true false e = cc
+    go false true e = cc
+    go false false e = refl
+
 module _ (rows limits : List ℕ) (choice : ℕ) (parts : Open) where
   abbrev keeps : Bool
   keeps = keeps_arms_at rows limits choice parts
@@ -82,13 +93,13 @@ module _ (rows limits : List ℕ) (choice : ℕ) (parts : Open) where
     pub not-ranked : ranked ≡ false → false ≡ keeps
     not-ranked e = let t = tests in cc
 
-    module _ (yes : ranked ≡ true) {enclosing : ℕ} (n : enclosing ≡ enclosing_at rows choice) where
-      pub not-inside : enclosing ≡ 0 → false ≡ keeps
-      not-inside e = let t = tests in let i = eq-eqb (enclosing_at rows choice) 0 (sym n ∙ e) in cc
+    module _ (yes : ranked ≡ true) {alone : Bool} (n : is_some (around_named (enclosing_at rows choice)) ≡ not alone) where
+      pub not-inside : alone ≡ true → false ≡ keeps
+      not-inside e = let t = tests in let i = around-none (enclosing_at rows choice) _ n in cc
 
-      module _ (inside : enclosing ≡ 0 → ⊥) {other : Bool} (test : other ≡ not (eqb (role_at rows around) (role_number loop_role))) where
+      module _ (inside : alone ≡ false) {other : Bool} (test : other ≡ not (eqb (role_at rows around) (role_number loop_role))) where
         abbrev i : eqb (enclosing_at rows choice) 0 ≡ false
-        i = ne_eqb (enclosing_at rows choice) 0 (λ e. inside (n ∙ e))
+        i = sym (around-none (enclosing_at rows choice) _ n) ∙ inside
 
         is-loop : (b : Bool) → other ≡ not b → other ≡ false → b ≡ true
         is-loop true e f = refl

@@ -50,7 +50,7 @@ fn keeps_arms(arrays: &PlanArrays, choice: usize, opened: &Open) -> bool
     let number = loop_at(rows, around);
     let depth = depth_at(rows, around);
     if !ranked_at(&arrays.limits, number)
-        || enclosing_at(rows, choice) == 0
+        || enclosing_at(rows, choice).is_none()
         || role_at(rows, around) != Role::Loop
         || MAX_DEPTH <= depth
     {
