@@ -2,3 +2,4 @@ pub mod Fields
 pub mod Patterns
 pub mod Appending
 pub mod Digits
+pub mod Made

@@ -8,14 +8,11 @@ use crate::put::put_byte;
 // The most digits of a number of 64 bits.
 pub const MAX_DIGITS: usize = 20;
 
-// The character of the digit 0.
-const ZERO: u64 = 48;
-
 fn put_digit(buffer: &mut [u8], at: usize, n: u64) -> usize
     requires { (at < length buffer.old) × (n < 10) }
     ensures { Appended buffer.old at (digit n ∷ []) buffer.new result }
 {
-    put_byte(buffer, at, (ZERO + n) as u8)
+    put_byte(buffer, at, b'0' + n as u8)
 }
 
 // At most so many digits, the highest first.

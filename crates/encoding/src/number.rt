@@ -2,6 +2,8 @@
 ghost use Rattle.std.specs.Prelude.{◌≡◌, ℕ, ◌<◌, slice_index, get_or, take, drop};
 ghost use Rattle.meaning.specs.Number.{unsigned, unsigned16, signed16, signed8};
 
+use std::array::from_fn;
+
 pub fn byte_at(s: &[u8], at: usize) -> u8
     ensures { result ≡ get_or s.now at 0 }
 {
@@ -12,11 +14,7 @@ pub fn byte_at(s: &[u8], at: usize) -> u8
 fn bytes_at<const N: usize>(s: &[u8], at: usize) -> [u8; N]
     ensures { (k : ℕ) → k < N → slice_index result k ≡ slice_index (drop at s.now) k }
 {
-    let mut bytes = [0; N];
-    for i in 0..N {
-        bytes[i] = byte_at(s, at.saturating_add(i));
-    }
-    bytes
+    from_fn(|i| byte_at(s, at.saturating_add(i)))
 }
 
 pub fn unsigned16_at(s: &[u8], at: usize) -> u16
@@ -29,6 +27,12 @@ pub fn unsigned32_at(s: &[u8], at: usize) -> u32
     ensures { result ≡ unsigned (take 4 (drop at s.now)) }
 {
     u32::from_le_bytes(bytes_at(s, at))
+}
+
+pub fn unsigned64_at(s: &[u8], at: usize) -> u64
+    ensures { result ≡ unsigned (take 8 (drop at s.now)) }
+{
+    u64::from_le_bytes(bytes_at(s, at))
 }
 
 pub fn signed16_at(s: &[u8], at: usize) -> i16
