@@ -1,9 +1,9 @@
 // Numbers in what follows a case's sheet.
-ghost use Rattle.std.specs.Prelude.{◌≡◌, take, drop};
-ghost use Rattle.meaning.specs.Number.{unsigned};
+ghost use Rattle.std.specs.Prelude.{◌≡◌};
 ghost use Rattle.meaning.specs.Program.{input_parameters};
 
-use encoding::number::{signed16_at, unsigned32_at};
+use encoding::number::signed16_at;
+pub use encoding::number::unsigned64_at;
 use form::Parameters;
 
 // How many bytes the four parameters take, which come first.
@@ -17,16 +17,4 @@ pub fn parameters_in(given: &[u8]) -> Parameters
     let p3 = signed16_at(given, 4);
     let p4 = signed16_at(given, 6);
     [p1, p2, p3, p4]
-}
-
-// The number in eight bytes, low byte first.
-pub fn unsigned64_at(given: &[u8], at: usize) -> u64
-    ensures { result ≡ unsigned (take 8 (drop at given.now)) }
-{
-    if given.len() <= at {
-        return 0;
-    }
-    let low = unsigned32_at(given, at);
-    let high = unsigned32_at(given, at + 4);
-    u64::from(low) + (u64::from(high) << 32)
 }
