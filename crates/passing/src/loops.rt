@@ -38,7 +38,7 @@ fn join_trip(limit: u64, around: usize, frame: usize, counter: u64, trip: Bounds
     if limit == 0 {
         opened.pass_trip(frame, trip);
     } else {
-        opened.keep(around, counter as usize, trip);
+        opened.keep(around, counter, trip);
     }
 }
 
@@ -74,7 +74,7 @@ fn leave_loop(limit: u64, around: usize, frame: usize, trips: u64, state: &mut S
     }
     let held = counter.min(limit - 1);
     let summed = sum_trips(&state.opened, around, held, trips, trip);
-    state.opened.forget(around, held as usize);
+    state.opened.forget(around, held);
     state.opened.add_around(frame, summed, &mut state.sums);
     state.opened.leave_frame(frame);
 }
@@ -103,7 +103,7 @@ fn join_kept(around: usize, held: u64, state: &mut State)
 {
     let kept = state.opened.kept_sum(around, held);
     state.sums.add(kept);
-    state.opened.forget(around, held as usize);
+    state.opened.forget(around, held);
     state.opened.arms.clear();
 }
 

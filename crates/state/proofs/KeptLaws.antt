@@ -1,5 +1,6 @@
 -- Where kept trips lie, and how the first trips are read.
-use Rattle.std.proofs.Common.{◌≡◌, ℕ, zero, suc, ◌+◌, ◌%◌, ◌^◌, ◌<◌, ◌≤◌, List, [], ◌∷◌, map, length, get_or, take, ℤ, pos, refl, ap, ◌∙◌, inl, arith}
+use Rattle.std.proofs.Common.{◌≡◌, ℕ, zero, suc, ◌+◌, ◌-◌, ◌%◌, ◌^◌, ◌<◌, ◌≤◌, List, [], ◌∷◌, map, length, get_or, take, drop, ℤ, pos, refl, ap, ◌∙◌, inl, arith}
+use Rattle.std.proofs.lemmas.List.{get_or-take, get_or-drop}
 use Rattle.whole.specs.Integer.{floor_remainder}
 use Rattle.whole.specs.Newton.{newton_sum, values}
 use Rattle.whole.specs.Sum.{total}
@@ -28,6 +29,39 @@ room_within (suc zero) h = omega arith
 room_within (suc (suc zero)) h = omega arith
 room_within (suc (suc (suc zero))) h = omega arith
 room_within (suc (suc (suc (suc depth)))) h = absurd (omega arith)
+
+-- ---- the first trips, read from the slice of the kept ones
+
+module _ (kept : List Bounds) (depth held start end : ℕ) (s : start ≡ kept_from depth + 0) (e : end ≡ kept_from depth + held) where
+  abbrev read : ℕ → Bounds
+  read number = get_or (take (end - start) (drop start kept)) number no_bounds
+
+  kept-read : (number : ℕ) → number < held → read number ≡ kept_trip kept depth number
+  unfolding kept_trip
+  kept-read number h =
+      get_or-take (end - start) (drop start kept) number no_bounds (omega arith)
+      ∙ get_or-drop start kept number no_bounds
+      ∙ ap (λ (n : ℕ). get_or kept n no_bounds) (let at : start + number ≡ kept_from depth + number = omega arith in at)
+
+  module _ (last none : Bounds) (z : none ≡ no_bounds) where
+    abbrev firsts : List Bounds
+    firsts = first_trips kept depth held last
+
+    pub one-trip : held ≡ 0 → last ∷ none ∷ none ∷ none ∷ [] ≡ firsts
+    unfolding first_trips
+    one-trip h = rw (h, z) refl
+
+    pub two-trips : held ≡ 1 → read 0 ∷ last ∷ none ∷ none ∷ [] ≡ firsts
+    unfolding first_trips
+    two-trips h = rw (kept-read 0 (omega arith), h, z) refl
+
+    pub three-trips : held ≡ 2 → read 0 ∷ read 1 ∷ last ∷ none ∷ [] ≡ firsts
+    unfolding first_trips
+    three-trips h = rw (kept-read 0 (omega arith), kept-read 1 (omega arith), h, z) refl
+
+    pub four-trips : held ≡ 3 → read 0 ∷ read 1 ∷ read 2 ∷ last ∷ [] ≡ firsts
+    unfolding first_trips
+    four-trips h = rw (kept-read 0 (omega arith), kept-read 1 (omega arith), kept-read 2 (omega arith), h) refl
 
 -- ---- the kept trips together
 

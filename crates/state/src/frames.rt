@@ -48,10 +48,9 @@ impl Open {
         ensures { self.new ≡ with_frames self.old (arm_passed self.old.frames number arm) }
     {
         let place = number % MAX_OPEN;
-        let joined = match self.frames[place].passed {
-            None => arm,
-            Some(passed) => passed.joined(arm),
-        };
+        let joined = self.frames[place]
+            .passed
+            .map_or(arm, |passed| passed.joined(arm));
         self.frames[place].passed = Some(joined);
     }
 

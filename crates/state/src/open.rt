@@ -22,7 +22,8 @@ pub struct Frame {
     pub passed: Option<Bounds>,
 }
 
-// How many arms are kept, and each of them.
+// How many arms are kept, and each of them. Stays a length beside its buffer, since there is no heap, and a State, which `stages::stage` takes by value,
+// is Copy, as the kit's ArrayVec is not.
 #[derive(Clone, Copy)]
 pub struct Arms {
     pub count: usize,

@@ -54,7 +54,7 @@ pub fn limit_within(limits: &Limits, number: usize, depth: usize) -> u64
     limit_at(limits, number).min((MAX_DEPTH - depth) as u64)
 }
 
-// The same where a ranked loop may be walked in this trip: then 0.
+// The same where a ranked loop may be walked in this trip: then 0. Stays a number with that 0, since the contract is so (docs/landings/C-18.md).
 pub fn limit_unless(walked: bool, limits: &Limits, number: usize, depth: usize) -> u64
     requires { depth ≤ depth_limit }
     ensures { result ≡ (if walked then 0 else Trips.limit_within limits.now number depth) }
@@ -66,7 +66,7 @@ pub fn limit_unless(walked: bool, limits: &Limits, number: usize, depth: usize) 
     }
 }
 
-// How many of a loop's trips are visited: all of a walked loop's, which has limit 0.
+// How many of a loop's trips are visited: all of a walked loop's. Its limit stays 0, since that of `limit_unless` is (docs/landings/C-18.md).
 #[tactic(auto, unfolding(crate::specs::Trips::visited_by))]
 pub fn visited_by(limit: u64, trips: u64) -> u64
     ensures { result ≡ Trips.visited_by limit trips }
