@@ -1,7 +1,17 @@
 -- How many loops are barred by the innermost open choice, from the binary digits of what is open.
-use mathlib.Core.Path.{◌≡◌, refl, ap, ap₂, ◌∙◌}
+use mathlib.Core.Bool.{Bool, true, false}
+use mathlib.Core.Path.{◌≡◌, refl, sym, ap, ap₂, subst, ◌∙◌}
 use mathlib.Core.List.{List, [], ◌∷◌}
-use Prim.Native.Nat.{ℕ, ◌-◌, ◌/◌, ◌%◌, ◌≤◌}
+use Prim.Native.Nat.{ℕ, zero, suc, ◌+◌, ◌*◌, ◌-◌, ◌/◌, ◌%◌, ◌^◌, ◌<◌, ◌≤◌}
+use mir.Syntax.{w64}
+use lib.Dec.{ltb}
+use lib.Count.{count_trailing_zeros}
+use borrow.Author.Tests.{ltb-true, ltb-false}
+use Rattle.std.specs.Prelude as Std
+use Rattle.std.specs.Prelude.{Some, None, SomeIff}
+use Rattle.std.specs.Option.{unwrap_or}
+use Rattle.std.specs.Int.{bit_at, trailing_ones}
+use Rattle.std.proofs.lemmas.Nat.Bits.{bit_at_lowest, bit_at-suc, bit_at_ones, bit_at_ones_above, bit_at_above, bit_at-trailing_ones}
 use native.Mathlib.Omega.{arith}
 use Rattle.meaning.specs.Record.{Open, open_loop, open_choice, loop_depth}
 use Rattle.sheet.specs.declared.nesting.Nesting.{Nesting}
@@ -10,30 +20,6 @@ use Rattle.loops.specs.declared.forms.Barred.{Barred}
 use Rattle.loops.specs.Enclosing.{choice_depth, rank_depth}
 use Rattle.loops.specs.Reckoned.{barred_by}
 
--- what remains open of os while the loops up to the innermost choice are left one by one
-pub record Remaining (depth loops : ℕ) (os : List Open) : Type 0 where
-  pub others : List Open
-  pub depth_is : depth ≡ loop_depth others
-  pub loops_are : loops ≡ loop_bits others
-  pub same : barred_by others ≡ barred_by os
-
-pub record Leaving (depth₀ loops₀ depth loops : ℕ) : Type 0 where
-  pub remaining : (os : List Open) → depth₀ ≡ loop_depth os → loops₀ ≡ loop_bits os → Remaining depth loops os
-
-pub leaving-start : (depth loops : ℕ) → Leaving depth loops depth loops
-leaving-start depth loops = record { remaining = λ os d l. record { others = os; depth_is = d; loops_are = l; same = refl } }
-
-pub leaving-next : (depth₀ loops₀ depth loops : ℕ) → Leaving depth₀ loops₀ depth loops → loops % 2 ≡ 1 → Leaving depth₀ loops₀ (depth - 1) (loops / 2)
-leaving-next depth₀ loops₀ depth loops g odd = record { remaining = λ os d l. go os (g.remaining os d l) }
-  where
-    step : (os us : List Open) → depth ≡ loop_depth us → loops ≡ loop_bits us → barred_by us ≡ barred_by os → Remaining (depth - 1) (loops / 2) os
-    step os [] d l e = unfold loop_bits in absurd (omega arith)
-    step os (open_loop ∷ us) d l e = unfold loop_bits loop_digit loop_depth barred_by choice_depth rank_depth in record { others = us; depth_is = omega arith; loops_are = omega arith; same = e }
-    step os (open_choice ∷ us) d l e = unfold loop_bits loop_digit in absurd (omega arith)
-
-    go : (os : List Open) → Remaining depth loops os → Remaining (depth - 1) (loops / 2) os
-    go os r = step os r.others r.depth_is r.loops_are r.same
-
 -- what the choice stands in has the next digit
 rank-beyond : (us : List Open) {rank : ℕ} → rank ≡ loop_depth us - loop_bits us % 2 → rank ≡ rank_depth (open_choice ∷ us)
 unfolding loop_bits loop_digit loop_depth rank_depth
@@ -41,34 +27,69 @@ rank-beyond [] e = omega arith
 rank-beyond (open_loop ∷ us) e = omega arith
 rank-beyond (open_choice ∷ us) e = omega arith
 
--- where the innermost open record is no loop
-at-choice : (depth loops : ℕ) → (loops % 2 ≡ 1 → ⊥) → (us : List Open) → depth ≡ loop_depth us → loops ≡ loop_bits us → {rank : ℕ} → rank ≡ depth - loops / 2 % 2 →
-    ◌≡◌ {A = Barred} (record { choice = depth; rank = rank }) (barred_by us)
-unfolding loop_bits loop_digit loop_depth barred_by choice_depth rank_depth
-at-choice depth loops even [] d l {rank} r =
-    let z : rank ≡ 0 = omega arith in
-    λ t. record { choice = d t; rank = z t }
-at-choice depth loops even (open_loop ∷ us) d l r = absurd (even (omega arith))
-at-choice depth loops even (open_choice ∷ us) d l {rank} r =
-    let half : loops / 2 ≡ loop_bits us = omega arith in
-    let beyond : rank ≡ loop_depth us - loop_bits us % 2 = r ∙ ap₂ (λ (m n : ℕ). m - n % 2) d half in
-    λ t. record { choice = d t; rank = rank-beyond us beyond t }
+-- so many of the lowest digits are 1, and the next is 0
+record OnesBelow (n t : ℕ) : Type 0 where
+  pub next : bit_at n t ≡ 0
+  pub below : (i : ℕ) → i < t → bit_at n i ≡ 1
 
-module _ (here : Nesting) (depth loops : ℕ) (g : Leaving here.depth here.loops depth loops) (os : List Open) (opens : here ≡ nesting_of os) where
-  there : Remaining depth loops os
-  unfolding nesting_of
-  there = g.remaining os (ap (λ (n : Nesting). n.depth) opens) (ap (λ (n : Nesting). n.loops) opens)
+ones-below : (n : ℕ) → n < 2 ^ 64 → OnesBelow n (trailing_ones w64 n)
+unfolding count_trailing_zeros
+ones-below n h = go (ltb (n + 1) (2 ^ 64)) refl
+  where
+    count : trailing_ones w64 (2 ^ 64 - 1) ≡ 64
+    count = refl
 
-  pub leaving-none : loops % 2 ≡ 1 → depth ≡ 0 → {barred : Barred} → barred ≡ barred_by os
-  leaving-none odd z = go there.others there.depth_is there.loops_are
-    where
-      go : (us : List Open) → depth ≡ loop_depth us → loops ≡ loop_bits us → {barred : Barred} → barred ≡ barred_by os
-      go [] d l = unfold loop_bits in absurd (omega arith)
-      go (open_loop ∷ us) d l = unfold loop_depth in absurd (omega arith)
-      go (open_choice ∷ us) d l = unfold loop_bits loop_digit in absurd (omega arith)
+    at-most : OnesBelow (2 ^ 64 - 1) 64
+    at-most = record { next = bit_at_ones_above 64 64 (omega arith); below = λ i less. bit_at_ones 64 i less }
 
-  pub leaving-done : (loops % 2 ≡ 1 → ⊥) → {rank : ℕ} → rank ≡ depth - loops / 2 % 2 → ◌≡◌ {A = Barred} (record { choice = depth; rank = rank }) (barred_by os)
-  leaving-done even r = at-choice depth loops even there.others there.depth_is there.loops_are r ∙ there.same
+    all-ones : (m : ℕ) → m ≡ 2 ^ 64 - 1 → OnesBelow m (trailing_ones w64 m)
+    all-ones m e = subst (λ (k : ℕ). OnesBelow k (trailing_ones w64 k)) (sym e) (subst (OnesBelow (2 ^ 64 - 1)) (sym count) at-most)
+
+    go : (c : Bool) → ltb (n + 1) (2 ^ 64) ≡ c → OnesBelow n (trailing_ones w64 n)
+    go true e = let law = bit_at-trailing_ones w64 n (ltb-true (n + 1) (2 ^ 64) e) in record { next = law.1; below = law.2 }
+    go false e = let more = ltb-false (n + 1) (2 ^ 64) e in all-ones n (omega arith)
+
+-- the loops inside the innermost choice have these digits
+barred-from : (os : List Open) (t : ℕ) → OnesBelow (loop_bits os) t →
+    (loop_depth os - t ≡ choice_depth os) × (loop_depth os - t - bit_at (loop_bits os) (t + 1) ≡ rank_depth os)
+unfolding loop_bits loop_digit loop_depth choice_depth rank_depth
+barred-from [] t h = (omega arith, omega arith)
+barred-from (open_loop ∷ os) zero h =
+    let e : (2 * loop_bits os + 1) % 2 ≡ 0 = sym (bit_at_lowest (2 * loop_bits os + 1)) ∙ h.next in
+    absurd (omega arith)
+barred-from (open_loop ∷ os) (suc t) h =
+    let n : ℕ = 2 * loop_bits os + 1 in
+    let half : n / 2 ≡ loop_bits os = omega arith in
+    let digit : (i : ℕ) → bit_at n (suc i) ≡ bit_at (loop_bits os) i = λ i. bit_at-suc n i ∙ ap (λ (m : ℕ). bit_at m i) half in
+    let r = barred-from os t (record { next = sym (digit t) ∙ h.next; below = λ i less. sym (digit i) ∙ h.below (suc i) (omega (arith, less)) }) in
+    let one : suc (loop_depth os) - suc t ≡ loop_depth os - t = omega arith in
+    (one ∙ r.0, ap₂ (λ (a b : ℕ). a - b) one (ap (bit_at n) (let e : suc t + 1 ≡ suc (t + 1) = omega arith in e) ∙ digit (t + 1)) ∙ r.1)
+barred-from (open_choice ∷ os) zero h =
+    let n : ℕ = 2 * loop_bits os + 0 in
+    let half : n / 2 ≡ loop_bits os = omega arith in
+    let digit : bit_at n 1 ≡ loop_bits os % 2 = bit_at-suc n 0 ∙ bit_at_lowest (n / 2) ∙ ap (λ (m : ℕ). m % 2) half in
+    (omega arith, rank-beyond os (ap (λ (d : ℕ). loop_depth os - 0 - d) digit ∙ omega arith))
+barred-from (open_choice ∷ os) (suc t) h =
+    let e : (2 * loop_bits os + 0) % 2 ≡ 1 = sym (bit_at_lowest (2 * loop_bits os + 0)) ∙ h.below 0 (omega arith) in
+    absurd (omega arith)
+
+digit-read : (n k : ℕ) → n < 2 ^ 64 → (r : Std.Option ℕ) → SomeIff r (k < 64) (n / 2 ^ k) → {beyond : ℕ} → beyond ≡ unwrap_or r 0 → beyond % 2 ≡ bit_at n k
+digit-read n k h None s b = ap (λ (m : ℕ). m % 2) b ∙ sym (bit_at_above n 64 k h (omega (arith, s)))
+digit-read n k h (Some x) s b = ap (λ (m : ℕ). m % 2) (b ∙ s.1)
+
+pub barred-read : (here : Nesting) (os : List Open) → here ≡ nesting_of os → here.loops < 2 ^ 64 → {inside choice beyond rank : ℕ} → inside ≡ trailing_ones w64 here.loops →
+    choice ≡ here.depth - inside → (r : Std.Option ℕ) → SomeIff r (inside + 1 < 64) (here.loops / 2 ^ (inside + 1)) → beyond ≡ unwrap_or r 0 → rank ≡ choice - beyond % 2 →
+    ◌≡◌ {A = Barred} (record { choice = choice; rank = rank }) (barred_by os)
+unfolding nesting_of barred_by
+barred-read here os e h {inside} {choice} {beyond} {rank} i c r s b k =
+    let bits : here.loops ≡ loop_bits os = ap (λ (x : Nesting). x.loops) e in
+    let deep : here.depth ≡ loop_depth os = ap (λ (x : Nesting). x.depth) e in
+    let ones = subst (λ (n : ℕ). OnesBelow n inside) bits (subst (OnesBelow here.loops) (sym i) (ones-below here.loops h)) in
+    let are = barred-from os inside ones in
+    let first : choice ≡ choice_depth os = c ∙ ap (λ (d : ℕ). d - inside) deep ∙ are.0 in
+    let digit : beyond % 2 ≡ bit_at (loop_bits os) (inside + 1) = digit-read here.loops (inside + 1) h r s b ∙ ap (λ (n : ℕ). bit_at n (inside + 1)) bits in
+    let second : rank ≡ rank_depth os = k ∙ ap₂ (λ (a b : ℕ). a - b) (c ∙ ap (λ (d : ℕ). d - inside) deep) digit ∙ are.1 in
+    λ t. record { choice = first t; rank = second t }
 
 pub choice_depth-small : (os : List Open) → choice_depth os ≤ loop_depth os
 unfolding choice_depth loop_depth

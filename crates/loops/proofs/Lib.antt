@@ -8,3 +8,4 @@ pub mod LoopsRead
 pub mod AtRecord
 pub mod Surveying
 pub mod Pushes
+mod Skips

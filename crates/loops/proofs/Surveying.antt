@@ -6,7 +6,6 @@ use mathlib.Core.Path.{ap, ap₂, refl, subst, sym, ◌∙◌, ◌≡◌}
 use Prim.Native.Nat.{◌+◌, ◌<◌, suc, ℕ, ◌≤◌, ◌^◌}
 use native.Mathlib.Numerals.{add-one}
 use native.Mathlib.Omega.{arith}
-use borrow.Author.Tests.{le-ltb, lt-ltb}
 use lib.ListN.{drop, drop_of_length-le, get_or, length, length-map, replicate, take}
 use lib.Seq.{drop-cons, paste, take-suc}
 use lib.Dec.{ltb, eqb}
@@ -143,19 +142,18 @@ module _ {sheet : List ℕ} {count : ℕ} {ps : List ℤ} {words₀ facts₀ wor
   unfolding rows_of
   rows-count = rows-length rs sheet_start
 
-  -- what the walk answers, where it stops at record m
-  abbrev Answer : List ℕ → List ℕ → List ℕ → ℕ → Type 0
-  Answer rows words2 facts2 m = (over_ceiling all_rows all_facts ≡ cond (ltb m count) (some (offset_at rows m)) none)
+  -- what the walk answers
+  abbrev Answer : List ℕ → List ℕ → Option ℕ → Type 0
+  Answer words2 facts2 found = (found ≡ over_ceiling all_rows all_facts)
       × ((words2 ≡ stored_in words₀ (words_stored (within_ceiling all_facts))) × (facts2 ≡ stored_in facts₀ (facts_stored (within_ceiling all_facts))))
 
-  pub surveying-done : count ≤ n → (rows : List ℕ) → Answer rows words facts count
-  surveying-done h rows =
+  pub surveying-done : count ≤ n → Answer words facts none
+  surveying-done h =
       let past : length all_facts ≤ n = omega (arith, g.all, facts-count sheet ps) in
       let none_left : drop n all_facts ≡ [] = drop_of_length-le all_facts {i = n} past in
       let whole : loops_in (take n all_facts) ≡ within_ceiling all_facts =
       sym (g.within_so_far ∙ ap (λ (l : List (Option LoopFacts)). loops_in (take n all_facts) ++ within_ceiling l) none_left ∙ (unfold within_ceiling in append-nil (loops_in (take n all_facts)))) in (
-        g.none_over ∙ ap (over_ceiling (drop n all_rows)) none_left ∙ over-end (drop n all_rows)
-            ∙ sym (ap (λ (t : Bool). cond t (some (offset_at rows count)) none) (le-ltb count count (omega arith))),
+        sym (g.none_over ∙ ap (over_ceiling (drop n all_rows)) none_left ∙ over-end (drop n all_rows)),
         (
           g.words_so_far ∙ ap (λ (l : List LoopFacts). stored_in words₀ (words_stored l)) whole,
           g.facts_so_far ∙ ap (λ (l : List LoopFacts). stored_in facts₀ (facts_stored l)) whole,
@@ -305,13 +303,13 @@ module _ {sheet : List ℕ} {count : ℕ} {ps : List ℤ} {words₀ facts₀ wor
             (words_put : words2 ≡ cond over words (paste words (difference_from number) (loop_words (wide_form forms.difference) forms.size here.depth a.starts pushes) difference_width))
             (facts_put : facts2 ≡ cond over facts (paste facts (fact_from number) (fact_numbers (fact_within (wide_form forms.difference) forms.size forms.asked barred a)) fact_width))
           where
-            pub surveying-over : over ≡ true → Answer rows words2 facts2 n
+            pub surveying-over : over ≡ true → Answer words2 facts2 (some at)
             unfolding or_else
             surveying-over above =
                 let whole : loops_in (take n all_facts) ≡ within_ceiling all_facts =
                 sym (within-next all_facts n in-facts g.within_so_far (some fact) fact-is ∙ stops-over above) in (
-                  over-now ∙ ap (λ (t : Bool). or_else t (get_or all_rows n blank_row).offset (over_ceiling (drop (suc n) all_rows) (drop (suc n) all_facts))) above
-                      ∙ ap some (sym (row-offset sheet ps n there held)) ∙ sym (ap (λ (t : Bool). cond t (some (offset_at rows n)) none) (lt-ltb n count more)),
+                  sym (over-now ∙ ap (λ (t : Bool). or_else t (get_or all_rows n blank_row).offset (over_ceiling (drop (suc n) all_rows) (drop (suc n) all_facts))) above
+                      ∙ ap some (sym (at_is ∙ row-offset sheet ps n there held))),
                   (
                     words_put ∙ first-if over words _ above ∙ g.words_so_far ∙ ap (λ (l : List LoopFacts). stored_in words₀ (words_stored l)) whole,
                     facts_put ∙ first-if over facts _ above ∙ g.facts_so_far ∙ ap (λ (l : List LoopFacts). stored_in facts₀ (facts_stored l)) whole,

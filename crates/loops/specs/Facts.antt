@@ -1,5 +1,7 @@
 -- What the parameters make of each loop of a sheet, by a walk from the first record to the last with the loops open around it.
 use Rattle.std.specs.Prelude.{List, [], ◌∷◌, map, Bool, cond, ℕ, ℤ, ltb}
+use Rattle.std.specs.Prelude as Std
+use Rattle.std.specs.Prelude.{Some, None}
 use Rattle.std.proofs.Math.Option.{Option, none, some}
 use Rattle.std.specs.Int.Signed.{le_z}
 use Rattle.meaning.specs.Form.{value}
@@ -92,3 +94,8 @@ over_ceiling [] fs = none
 over_ceiling (r ∷ rows) [] = none
 over_ceiling (r ∷ rows) (none ∷ fs) = over_ceiling rows fs
 over_ceiling (r ∷ rows) (some f ∷ fs) = or_else (ltb ceiling_limit f.ceiling) r.offset (over_ceiling rows fs)
+
+-- the same, as the code answers it
+abbrev pub place_in : Std.Option ℕ → Option ℕ
+place_in None = none
+place_in (Some at) = some at

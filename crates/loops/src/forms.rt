@@ -23,8 +23,8 @@ use records::loops::Loop;
 use sheet::head::body_at;
 use sheet::nesting::Nesting;
 
-// The indexes of the open loops, an entry for each depth: from lo to hi, and where every counter is 0. Stays as two arrays in place of one of ranges, since
-// a form's range is worked out twice by one function, for the largest value with the two exchanged.
+// The indexes of the open loops, an entry for each depth: from lo to hi, and where every counter is 0. Stays two arrays in place of one of ranges, since
+// `Form::range`, which docs/ARCHITECTURE.md names, takes the two.
 #[derive(Clone, Copy)]
 pub struct Around {
     pub lo: PerLoop,
@@ -70,29 +70,17 @@ fn trips_over(most: i64, stride: u64) -> u64
     most.unsigned_abs() / stride + 1
 }
 
-// Of the `depth` loops around a choice, how many it keeps from being ranked: not the loop that it stands directly in. `loops` has the choice's digit lowest.
-fn rank_depth(depth: usize, loops: u64) -> usize
-    ensures { result ≡ depth - loops / 2 % 2 }
-{
-    depth.saturating_sub((loops / 2 % 2) as usize)
-}
-
-// How many of the open loops are barred by the innermost open choice; 0 where none is open.
+// How many of the open loops are barred by the innermost open choice; 0 where none is open. Inside it stand the loops whose digits are the lowest ones; of
+// the loops around it the one that it stands directly in, if it does, is not barred from being ranked.
 pub(crate) fn barred_by(here: Nesting) -> Barred
     ensures { (os : List Open) → here ≡ nesting_of os → result ≡ barred_by os }
 {
-    let mut depth = here.depth;
-    let mut loops = here.loops;
-    while loops % 2 == 1 {
-        if depth == 0 {
-            return Barred { choice: 0, rank: 0 };
-        }
-        depth -= 1;
-        loops /= 2;
-    }
+    let inside = here.loops.trailing_ones();
+    let choice = here.depth.saturating_sub(inside as usize);
+    let beyond = here.loops.checked_shr(inside + 1).unwrap_or(0);
     Barred {
-        choice: depth,
-        rank: rank_depth(depth, loops),
+        choice,
+        rank: choice.saturating_sub((beyond % 2) as usize),
     }
 }
 
@@ -146,7 +134,7 @@ pub(crate) fn forms_at(sheet: &[u8], at: usize, parameters: Parameters) -> Forms
     ensures { (l : M.Loop) → decode_record (loop_kind (eqb (get_or sheet.now at 0) 6)) (body_at sheet.now at) ≡ M.loop_record l →
         FormsOf l parameters result }
 {
-    let skips = byte_at(sheet, at) == Kind::SkipLoop as u8;
+    let skips = Kind::of(byte_at(sheet, at)) == Some(Kind::SkipLoop);
     let source = Loop::decode(body_at(sheet, at), skips);
     forms_of(source, skips, parameters)
 }

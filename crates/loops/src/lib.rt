@@ -4,14 +4,12 @@
 mod forms;
 
 ghost use Rattle.std.specs.Prelude.{◌≡◌, cond, ◌<◌, ◌^◌, ltb, length, Some, None};
-ghost use Rattle.std.proofs.Math.Option.{none, some};
 ghost use Rattle.meaning.specs.Limits.{ceiling_limit};
 ghost use Rattle.form.specs.Forms.{wide_form};
 ghost use Rattle.layout.specs.Numbers.{stored_in};
-ghost use Rattle.layout.specs.Rows.{offset_at};
 ghost use Rattle.sheet.specs.Sheets.{records_of};
 ghost use Rattle.nest.specs.Rows.{rows_of};
-ghost use Rattle.loops.specs.Facts.{within_ceiling, words_stored, facts_stored, sheet_facts, over_ceiling};
+ghost use Rattle.loops.specs.Facts.{within_ceiling, words_stored, facts_stored, sheet_facts, over_ceiling, place_in};
 ghost use Rattle.loops.specs.Reckoned.{ceiling_within, fact_within, FourSmall};
 ghost use Rattle.nest.specs.Known.{RowsHeld};
 
@@ -45,12 +43,16 @@ fn fact_of(forms: Forms, barred: Barred, around: Around) -> Option<Fact>
     })
 }
 
-// What the parameters make of the loops; answers the number of the first record that is a loop whose ceiling is above the limit, or `count`. What
-// comes from that record on is not stored.
-pub fn survey(sheet: &[u8], count: usize, parameters: Parameters, arrays: &mut PlanArrays) -> usize
+// What the parameters make of the loops; answers the offset of the first record that is a loop whose ceiling is above the limit. What comes from that
+// record on is not stored.
+pub fn survey(
+    sheet: &[u8],
+    count: usize,
+    parameters: Parameters,
+    arrays: &mut PlanArrays,
+) -> Option<usize>
     requires { (count ≡ length (records_of sheet.now)) × (RowsHeld arrays.old.rows (records_of sheet.now) × FourSmall parameters) }
-    ensures over { over_ceiling (rows_of (records_of sheet.now)) (sheet_facts parameters (records_of sheet.now))
-        ≡ cond (ltb result count) (some (offset_at arrays.old.rows result)) none }
+    ensures over { place_in result ≡ over_ceiling (rows_of (records_of sheet.now)) (sheet_facts parameters (records_of sheet.now)) }
     ensures differences { arrays.new.differences
         ≡ stored_in arrays.old.differences (words_stored (within_ceiling (sheet_facts parameters (records_of sheet.now)))) }
     ensures facts { arrays.new.facts
@@ -67,30 +69,30 @@ pub fn survey(sheet: &[u8], count: usize, parameters: Parameters, arrays: &mut P
     let mut here = Nesting::nothing();
     for number in 0..count {
         let at = offset_at(&arrays.rows, number);
-        let kind = byte_at(sheet, at);
+        let outside = here;
+        here = outside.after(byte_at(sheet, at));
         if role_at(&arrays.rows, number) != Role::Loop {
-            here = here.after(kind);
             continue;
         }
         let forms = forms_at(sheet, at, parameters);
-        let Some(fact) = fact_of(forms, barred_by(here), around) else {
-            return number;
+        let Some(fact) = fact_of(forms, barred_by(outside), around) else {
+            return Some(at);
         };
         let of_loop = loop_at(&arrays.rows, number);
         let words = loop_words(
             forms.difference,
             forms.size,
-            here.depth,
+            outside.depth,
             around.starts,
             pushes,
         );
         put_difference(&mut arrays.differences, of_loop, words);
         put_fact(&mut arrays.facts, of_loop, fact);
-        let inside = around_with(forms, here.depth, around);
-        let deeper = pushes_with(forms, here.depth, pushes);
+        // Stays with two names, since no proof covers a call whose array is laid over the one that it takes.
+        let inside = around_with(forms, outside.depth, around);
+        let deeper = pushes_with(forms, outside.depth, pushes);
         around = inside;
         pushes = deeper;
-        here = here.after(kind);
     }
-    count
+    None
 }

@@ -1,12 +1,9 @@
 -- The plan's answer from the walks: the reader's refusals, refusal 6, or the plan.
-use mathlib.Core.Bool.{Bool, cond}
 use mathlib.Core.List.{List, []}
 use mathlib.Core.Option.{Option, some, none}
 use mathlib.Core.Path.{◌≡◌, ap, refl, sym, ◌∙◌}
-use Prim.Native.Nat.{◌<◌, ℕ, ◌≤◌}
-use borrow.Author.Tests.{le-ltb, lt-ltb}
+use Prim.Native.Nat.{ℕ}
 use lib.ListN.{length}
-use lib.Dec.{ltb}
 use lib.IntN.{ℤ}
 use Rattle.meaning.specs.Record.{Record}
 use Rattle.meaning.specs.Reader.{Result, and_then, ok, read, refused}
@@ -69,18 +66,13 @@ module _ (sheet : List ℕ) (ps : List ℤ) where
       ∙ check_ceilings-then (first_over_ceiling (sheet_reports ps (records_of sheet))) (records_of sheet) (plan_of_records ps)
       ∙ ap (λ o. check_ceilings o (plan_of_records ps (records_of sheet))) (sym (over-ceiling ps (records_of sheet) (records-in-place sheet)))
 
-  module _ (known : read sheet ≡ ok (records_of sheet)) (first count place : ℕ) (over_is : over ≡ cond (ltb first count) (some place) none) where
+  module _ (known : read sheet ≡ ok (records_of sheet)) where
     -- of a sheet with a loop above the ceiling
-    pub plan-over : first < count → plan_of sheet ps ≡ refused 6 place
+    pub plan-over : (place : ℕ) → over ≡ some place → plan_of sheet ps ≡ refused 6 place
     unfolding check_ceilings
-    plan-over less =
-        plan-read known
-        ∙ ap (λ (x : Option ℕ). check_ceilings x (plan_of_records ps (records_of sheet))) (over_is ∙ ap (λ (t : Bool). cond t (some place) none) (lt-ltb first count less))
+    plan-over place above = plan-read known ∙ ap (λ (x : Option ℕ). check_ceilings x (plan_of_records ps (records_of sheet))) above
 
-    module _ (past : count ≤ first) where
-      none_over : over ≡ none
-      none_over = over_is ∙ ap (λ (t : Bool). cond t (some place) none) (le-ltb first count past)
-
+    module _ (none_over : over ≡ none) where
       -- of another sheet
       pub plan-made : plan_of sheet ps ≡ ok (plan_of_records ps (records_of sheet))
       unfolding check_ceilings
@@ -102,16 +94,14 @@ module _ (sheet : List ℕ) (ps : List ℤ) (limits : List ℕ) where
   unfolding plan_count limits_in
   none-stored e = (sym (ap plan_count e), sym (ap (λ (r : Result Plan). stored_in limits (limits_in r)) e ∙ stored-none limits))
 
-  pub refused_over : read sheet ≡ ok (records_of sheet) → (first count place : ℕ) → over sheet ps ≡ cond (ltb first count) (some place) none → first < count →
-      Answers (refused 6 place) limits
-  refused_over known first count place o less = none-stored (plan-over sheet ps known first count place o less)
+  pub refused_over : read sheet ≡ ok (records_of sheet) → (place : ℕ) → over sheet ps ≡ some place → Answers (refused 6 place) limits
+  refused_over known place above = none-stored (plan-over sheet ps known place above)
 
-  pub answered : read sheet ≡ ok (records_of sheet) → (first count place : ℕ) → over sheet ps ≡ cond (ltb first count) (some place) none → count ≤ first →
-      count ≡ length (records_of sheet) → {limits2 : List ℕ} → limits2 ≡ stored_in limits (limits_stored (loops_in (sheet_plans ps (records_of sheet)))) →
+  pub answered : read sheet ≡ ok (records_of sheet) → over sheet ps ≡ none → (count : ℕ) → count ≡ length (records_of sheet) → {limits2 : List ℕ} → limits2 ≡ stored_in limits (limits_stored (loops_in (sheet_plans ps (records_of sheet)))) →
       Answers (ok count) limits2
   unfolding plan_count limits_in plan_of_records
-  answered known first count place o past n l =
-      let made = plan-made sheet ps known first count place o past in
+  answered known none_over count n l =
+      let made = plan-made sheet ps known none_over in
       (ap ok n ∙ sym (ap plan_count made), l ∙ sym (ap (λ (r : Result Plan). stored_in limits (limits_in r)) made))
 
   -- of a sheet that is refused nothing is stored

@@ -17,7 +17,6 @@ ghost use Rattle.planner.specs.Answers.{plan_count};
 use crate::closing::put_limits;
 use form::Parameters;
 use layout::PlanArrays;
-use layout::rows::offset_at;
 use loops::survey;
 use nest::lay_rows;
 use sheet::reader::check_sheet;
@@ -36,11 +35,10 @@ pub fn plan(sheet: &[u8], parameters: Parameters, arrays: &mut PlanArrays) -> Re
 {
     let count = check_sheet(sheet)?;
     lay_rows(sheet, count, &mut arrays.rows);
-    let first = survey(sheet, count, parameters, arrays);
-    if first < count {
+    if let Some(offset) = survey(sheet, count, parameters, arrays) {
         return Err(Refusal {
             kind: RefusalKind::OverCeiling,
-            offset: offset_at(&arrays.rows, first),
+            offset,
         });
     }
     put_limits(count, arrays);

@@ -3,12 +3,10 @@ use mathlib.Core.Path.{◌≡◌, refl, sym, ap, ◌∙◌, subst}
 use mathlib.Core.Bool.{Bool, true, false, cond}
 use mathlib.Core.List.{List}
 use Prim.Native.Nat.{ℕ}
-use lib.Dec.{ltb}
 use lib.Seq.{paste}
-use mathlib.Core.Option.{some, none}
 use Rattle.std.specs.Prelude.{Some, None}
 use Rattle.layout.specs.declared.facts.Fact.{Fact}
-use Rattle.layout.specs.Rows.{role_number, loop_role, offset_at}
+use Rattle.layout.specs.Rows.{role_number, loop_role}
 use Rattle.layout.proofs.Roles.{role-found, role-other}
 use Rattle.layout.specs.Loops.{difference_from, difference_width, fact_from, fact_width, fact_numbers}
 use Rattle.meaning.specs.Record.{Record}
@@ -36,7 +34,7 @@ pub loop-number-preserved-then-ne : goal.loop-number-preserved-then-ne
 unfolding role_number
 loop-number-preserved-then-ne c = (
   surveying-skip c.loop-number.invariant.0 c.loop-number-test.true (rows-held c.loop-number.invariant.1.0 c.requires.1.0)
-      c.offset_at-at.ensures c.byte_at-kind.ensures c.after-here.ensures.«open» (role-other loop_role refl _ c.role_at.ensures c.ne.ensures c.if-ne.true),
+      c.offset_at-at.ensures c.byte_at.ensures c.after-here.ensures.«open» (role-other loop_role refl _ c.role_at.ensures c.ne.ensures c.if-ne.true),
   c.loop-number.invariant.1,
 )
 
@@ -70,7 +68,7 @@ returns-in_default c =
     let above = surveying-over c.loop-number.invariant.0 c.loop-number-test.true held c.requires.1.1 loop c.offset_at-at.ensures c.forms_at-forms.ensures
     (none-over _ _ (sym c.in_default.is ∙ c.fact_of.ensures)) refl (c.barred_by.ensures _ c.loop-number.invariant.0.opens) refl refl refl in
     record {
-      over = above.0 ∙ ap (λ (rows : List ℕ). cond (ltb c.loop-number.number c.args.count) (some (offset_at rows c.loop-number.number)) none) c.loop-number.invariant.1.0;
+      over = above.0;
       differences = above.1.0;
       facts = above.1.1;
       others = c.loop-number.invariant.1;
@@ -86,11 +84,11 @@ loop-number-preserved c =
           known.0 c.loop_at-of_loop.ensures (c.barred_by.ensures _ c.loop-number.invariant.0.opens)
           (c.put_difference.ensures ∙ ap (λ (words : List ℕ). paste c.loop-number.arrays.differences (difference_from c.loop_at-of_loop.result) words difference_width) c.loop_words-words.ensures)
           (c.put_fact.ensures ∙ ap (λ (fact : Fact). paste c.loop-number.arrays.facts (fact_from c.loop_at-of_loop.result) (fact_numbers fact) fact_width) known.1)
-          refl c.byte_at-kind.ensures c.after-here-in-loop-number.ensures.«open» c.around_with-inside.ensures c.pushes_with-deeper.ensures,
+          refl c.byte_at.ensures c.after-here.ensures.«open» c.around_with-inside.ensures c.pushes_with-deeper.ensures,
       c.loop-number.invariant.1,
     )
 
 pub returns : goal.returns
 returns c =
-    let done = surveying-done c.loop-number.invariant.0 c.loop-number-test.false c.args.arrays.now.rows in
+    let done = surveying-done c.loop-number.invariant.0 c.loop-number-test.false in
     record { over = done.0; differences = done.1.0; facts = done.1.1; others = c.loop-number.invariant.1 }

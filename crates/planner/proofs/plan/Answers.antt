@@ -1,13 +1,9 @@
 -- The reader's refusal, which stores nothing; refusal 6 at the first loop above the ceiling; or the plan with the limits of its loops.
 use mathlib.Core.Path.{sym, ◌∙◌, ap}
-use mathlib.Core.Bool.{cond}
-use mathlib.Core.Option.{none, some}
 use mathlib.Core.List.{List}
 use Prim.Native.Nat.{ℕ}
-use lib.Dec.{ltb}
 use Rattle.layout.specs.Numbers.{stored_in}
-use Rattle.layout.specs.Rows.{offset_at}
-use Rattle.loops.specs.Facts.{LoopFacts, words_stored, facts_stored, loops_in}
+use Rattle.loops.specs.Facts.{LoopFacts, words_stored, facts_stored, loops_in, place_in}
 use Rattle.planner.specs.Plan.{limits_stored, sheet_plans}
 use Rattle.planner.specs.Known.{Surveyed}
 use native.Mathlib.Omega.{arith}
@@ -35,8 +31,8 @@ returns-in_err-count c =
 pub lay_rows-requires : goal.lay_rows-requires
 lay_rows-requires c = (count-read c.args.sheet.now c.check_sheet.result c.check_sheet.ensures c.in_ok-count.count c.in_ok-count.was).1
 
-pub survey-first-requires : goal.survey-first-requires
-survey-first-requires c = (
+pub survey-requires : goal.survey-requires
+survey-requires c = (
   (count-read c.args.sheet.now c.check_sheet.result c.check_sheet.ensures c.in_ok-count.count c.in_ok-count.was).1,
   (
     record { before = c.args.arrays.now.rows; are = c.lay_rows.ensures },
@@ -44,15 +40,13 @@ survey-first-requires c = (
   ),
 )
 
-pub returns-then-first-count : goal.returns-then-first-count
-returns-then-first-count c =
+pub returns-in-Some : goal.returns-in-Some
+returns-in-Some c =
     let given = c.args in
     let known = count-read given.sheet.now c.check_sheet.result c.check_sheet.ensures c.in_ok-count.count c.in_ok-count.was in
-    let found = c.survey-first.ensures in
-    let place = c.offset_at.ensures ∙ ap (λ (rows : List ℕ). offset_at rows c.survey-first.result) found.others.0 in
-    let over = found.over ∙ ap (λ (n : ℕ). cond (ltb c.survey-first.result c.in_ok-count.count) (some n) none) (sym place) in
-    let answers =
-    refused_over given.sheet.now given.parameters given.arrays.now.limits known.0 c.survey-first.result c.in_ok-count.count c.offset_at.result over c.if-first-count.true in
+    let found = c.survey.ensures in
+    let above = sym found.over ∙ ap place_in c.in-Some.is in
+    let answers = refused_over given.sheet.now given.parameters given.arrays.now.limits known.0 c.in-Some.offset above in
     record {
       answer = answers.0;
       rows = found.others.0 ∙ c.lay_rows.ensures;
@@ -71,10 +65,11 @@ returns c =
     let sheet = given.sheet.now in
     let parameters = given.parameters in
     let known = count-read sheet c.check_sheet.result c.check_sheet.ensures c.in_ok-count.count c.in_ok-count.was in
-    let found = c.survey-first.ensures in
+    let found = c.survey.ensures in
     let stored = c.put_limits.ensures in
-    let within = all-within sheet parameters known.0 c.survey-first.result c.in_ok-count.count _ found.over c.if-first-count.false in
-    let arrays = c.survey-first.new.arrays in
+    let none_over = sym found.over ∙ ap place_in c.in_default.is in
+    let within = all-within sheet parameters known.0 none_over in
+    let arrays = c.survey.new.arrays in
     let held : Surveyed sheet parameters c.in_ok-count.count arrays.rows arrays.differences arrays.facts =
     record {
       small = four-of parameters _ c.well_formed.1.0;
@@ -93,7 +88,7 @@ returns c =
     stored.limits sheet parameters held
     ∙ ap (λ (l : List ℕ). stored_in l (limits_stored (loops_in (sheet_plans parameters (records_of sheet))))) found.others.1 in
     let answers =
-    answered sheet parameters given.arrays.now.limits known.0 c.survey-first.result c.in_ok-count.count _ found.over c.if-first-count.false known.1 limits in
+    answered sheet parameters given.arrays.now.limits known.0 none_over c.in_ok-count.count known.1 limits in
     record {
       answer = answers.0;
       rows = stored.rows ∙ found.others.0 ∙ c.lay_rows.ensures;
