@@ -1,6 +1,6 @@
 -- A choice's records, passed step by step, and which records are a loop's.
 use Rattle.std.specs.Prelude.{cond, is_some, None, Some, ◌-◌}
-use Rattle.std.proofs.Common.{◌≡◌, ℕ, ◌+◌, ◌<◌, ◌≤◌, Bool, true, false, not, ◌&&◌, eqb, ltb, List, sym, refl, ap, ◌∙◌, le-ltb, lt-ltb}
+use Rattle.std.proofs.Common.{◌≡◌, ℕ, ◌<◌, ◌≤◌, Bool, true, false, not, ◌&&◌, eqb, ltb, List, sym, refl, ap, ◌∙◌, le-ltb, lt-ltb}
 use denote.Enum.Bare.{sameb}
 use Rattle.meaning.specs.Limits.{depth_limit}
 use Rattle.layout.specs.contracts.rows.Role.{the_type}
@@ -19,7 +19,26 @@ use Rattle.state.specs.Sums.{from_zero}
 use Rattle.state.specs.Frames.{arm_passed, frame_left, passed_around}
 use Rattle.state.specs.States.{state_with}
 use Rattle.trips.specs.Trips.{limit_within}
-use Rattle.passing.specs.Pass.{open_choice, leave_arm, keeps_arms_at, open_arm_kept, pass_choice_where, pass_choice, is_of_loop}
+use Rattle.passing.specs.Pass.{at_next, open_choice, leave_arm, keeps_arms_at, open_arm_kept, open_arm_joined, pass_choice_where, pass_choice, is_of_loop}
+
+-- the open arm has joined those passed, and another opens or the choice ends
+module _ (rows : List ℕ) (frame : ℕ) (kept : Open) (s : State) {inside : State}
+    (joins : inside ≡ state_with s.at s.sums (with_frames kept (arm_passed kept.frames frame s.sums.passed))) where
+  ended :
+      {outside : Sums} {after : Open} → outside ≡ passed_around inside.opened.frames frame inside.sums
+      → after ≡ with_frames inside.opened (frame_left inside.opened.frames frame)
+      → leave_arm rows true frame (state_with s.at s.sums kept) ≡ at_next (state_with inside.at outside after)
+  unfolding leave_arm
+  ended o a =
+      let sums-after = o ∙ ap (λ (t : State). passed_around t.opened.frames frame t.sums) joins in
+      let opened-after = a ∙ ap (λ (t : State). with_frames t.opened (frame_left t.opened.frames frame)) joins in
+      sym (λ i. at_next (state_with (joins i).at (sums-after i) (opened-after i)))
+
+  opened : {sums : Sums} → sums ≡ from_zero inside.sums → leave_arm rows false frame (state_with s.at s.sums kept) ≡ at_next (state_with inside.at sums inside.opened)
+  unfolding leave_arm
+  opened z =
+      let sums-after = z ∙ ap (λ (t : State). from_zero t.sums) joins in
+      sym (λ i. at_next (state_with (joins i).at (sums-after i) (joins i).opened))
 
 module _ (rows : List ℕ) (at : ℕ) {role : Role} (named : role ≡ role_named (role_at rows at)) where
   module _ (limits : List ℕ) (s : State) (here : s.at ≡ at) where
@@ -29,15 +48,35 @@ module _ (rows : List ℕ) (at : ℕ) {role : Role} (named : role ≡ role_named
         ap (λ (n : ℕ). pass_choice_where rows limits (eqb (role_at rows n) (role_number choice_role)) s) here
         ∙ ap (λ (b : Bool). pass_choice_where rows limits b s) (sym (role-true choice_role refl (role_at rows at) named e))
 
-    pub arm-left :
-        (role ≡ choice_role → ⊥) → {last : Bool} → last ≡ sameb the_type role end_role → {choice frame : ℕ} → choice ≡ opener_at rows at
-        → frame ≡ frame_at rows choice → {kept : Open} → kept ≡ open_arm_kept rows limits choice s.sums.passed s.opened
+    abbrev kept : Open
+    kept = open_arm_kept rows limits (opener_at rows s.at) s.sums.passed s.opened
+
+    abbrev frame : ℕ
+    frame = frame_at rows (opener_at rows s.at)
+
+    -- the open arm is left
+    arm-left : (role ≡ choice_role → ⊥) → {last : Bool} → last ≡ eqb (role_at rows at) (role_number end_role)
         → pass_choice rows limits s ≡ leave_arm rows last frame (state_with s.at s.sums kept)
     unfolding pass_choice pass_choice_where
-    arm-left other {last} l {choice} {frame} c f {kept} k =
+    arm-left other l =
         ap (λ (n : ℕ). pass_choice_where rows limits (eqb (role_at rows n) (role_number choice_role)) s) here
         ∙ ap (λ (b : Bool). pass_choice_where rows limits b s) (sym (role-false choice_role refl (role_at rows at) named other))
-        ∙ (let t = role-test end_role refl (role_at rows at) named l in cc)
+        ∙ cc
+
+    module _ {inside : State} (joins : inside ≡ open_arm_joined rows limits s) {place : ℕ} (f : place ≡ frame) where
+      pub choice-ends :
+          role ≡ end_role → {outside : Sums} {after : Open} → outside ≡ passed_around inside.opened.frames place inside.sums
+          → after ≡ with_frames inside.opened (frame_left inside.opened.frames place) → pass_choice rows limits s ≡ at_next (state_with inside.at outside after)
+      choice-ends e o a =
+          arm-left (λ c. let clash = sym e ∙ c in cc) (role-true end_role refl (role_at rows at) named e)
+          ∙ ended rows frame kept s joins (o ∙ ap (λ (n : ℕ). passed_around inside.opened.frames n inside.sums) f)
+          (a ∙ ap (λ (n : ℕ). with_frames inside.opened (frame_left inside.opened.frames n)) f)
+
+    pub next-arm-opens :
+        {inside : State} → inside ≡ open_arm_joined rows limits s → (role ≡ choice_role → ⊥) → (role ≡ end_role → ⊥)
+        → {sums : Sums} → sums ≡ from_zero inside.sums → pass_choice rows limits s ≡ at_next (state_with inside.at sums inside.opened)
+    next-arm-opens joins other h z =
+        arm-left other (role-false end_role refl (role_at rows at) named h) ∙ opened rows frame kept s joins z
 
   pub end-of-loop : role ≡ end_role → {opener : ℕ} {inner : Role} {r : Bool} → opener ≡ opener_at rows at → inner ≡ role_named (role_at rows opener)
       → r ≡ sameb the_type inner loop_role → r ≡ is_of_loop rows at
@@ -51,18 +90,6 @@ module _ (rows : List ℕ) (at : ℕ) {role : Role} (named : role ≡ role_named
   loop-itself h t =
       let other = sym (role-false end_role refl (role_at rows at) named h) in
       let loops = role-test loop_role refl (role_at rows at) named t in cc
-
--- the arm that is left joins those passed
-module _ (rows : List ℕ) (s : State) (frame : ℕ) {passed : Open} (joins : passed ≡ with_frames s.opened (arm_passed s.opened.frames frame s.sums.passed)) {last : Bool} where
-  pub next-arm-opens : last ≡ false → {inside : Sums} → inside ≡ from_zero s.sums → leave_arm rows last frame s ≡ state_with (s.at + 1) inside passed
-  unfolding leave_arm
-  next-arm-opens e i = cc
-
-  pub choice-ends :
-      last ≡ true → {outside : Sums} {after : Open} → outside ≡ passed_around passed.frames frame s.sums
-      → after ≡ with_frames passed (frame_left passed.frames frame) → leave_arm rows last frame s ≡ state_with (s.at + 1) outside after
-  unfolding leave_arm
-  choice-ends e o a = cc
 
 -- ---- whether the arms of a choice are kept, test by test
 

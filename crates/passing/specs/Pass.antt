@@ -94,6 +94,13 @@ module _ (rows : List ℕ) where
     unfoldable pub open_arm_kept : ℕ → Bounds → Open → Open
     open_arm_kept choice arm parts = cond (keeps_arms_at choice parts) (with_arms parts (arm_kept parts.arms arm)) parts
 
+    -- and joins the arms passed of its choice, where the state stands at the record that ends it
+    abbrev pub open_arm_joined : State → State
+    open_arm_joined s =
+        let choice : ℕ = opener_at rows s.at in
+        let kept : Open = open_arm_kept choice s.sums.passed s.opened in
+        state_with s.at s.sums (with_frames kept (arm_passed kept.frames (frame_at rows choice) s.sums.passed))
+
     unfoldable pub pass_choice_where : Bool → State → State
     pass_choice_where true s = open_choice s
     pass_choice_where false s =

@@ -5,12 +5,13 @@ ghost use Rattle.state.specs.Open.{counter_at};
 ghost use Rattle.state.specs.Sums.{visit_begins};
 ghost use Rattle.state.specs.States.{state_with};
 ghost use Rattle.layout.specs.Rows.{opener_at, loop_at};
+ghost use Rattle.layout.specs.Loops.{ranked_at};
 ghost use Rattle.trips.specs.Trips.{limit_within};
 ghost use Rattle.passing.specs.Pass.{trip_joined, summed_trips, left_parts, left_sums, kept_joined, kept_dropped};
 ghost use Rattle.passing.specs.Pass.{goes_unsettled, arms_left, end_trip, end_trip_by, enter_loop, pass_loop};
 
 use layout::PlanArrays;
-use layout::limits::{ranked_at, some_ranked};
+use layout::limits::{Limits, ranked_at, some_ranked};
 use layout::rows::{
     Role, Rows, after_end_at, entry_cost_at, frame_at, loop_at, opener_at, role_at, step_at,
 };
@@ -22,14 +23,16 @@ use state::bounds::Bounds;
 use state::open::Open;
 use trips::{further, limit_unless, limit_within, trips_at, visited_by};
 
-// How many loops are open after a record, and whether a visit begins there. Stays a flag beside the depth, since `pass_loop` says both in either case.
+// How many loops are open after a record, and whether a visit begins there. Stays a flag beside the depth, since the clause of `pass_loop` gives
+// both in either case, as the definition's `Passage` does.
 #[derive(Clone, Copy)]
 pub struct Outcome {
     pub depth: usize,
     pub begun: bool,
 }
 
-// The open trip joins those visited before if the loop is walked, which has limit 0; otherwise it is kept.
+// The open trip joins those visited before if the loop is walked; otherwise it is kept. A walked loop's limit stays 0, here and below, since that of
+// `trips::limit_unless` is (docs/landings/C-18.md).
 fn join_trip(limit: u64, around: usize, frame: usize, counter: u64, trip: Bounds, opened: &mut Open)
     requires counter_value { counter ≡ counter_at opened.old around }
     requires counter_bound { (limit ≢ 0) → suc (around + counter) < depth_limit }
@@ -109,7 +112,8 @@ fn join_kept(around: usize, held: u64, state: &mut State)
 
 // Whether the loop of which a trip ends is ranked and walked nevertheless: after its first trips, or in the last of them where its choices are found
 // unsettled, when it turns to walking: the kept trips join the open one, and their arms are dropped. It is asked before all else, since of most sheets
-// no loop is ranked: what follows is then quicker.
+// no loop is ranked: what follows is then quicker. What it reads of the loop stays read in `end_trip` too, since a struct
+// of both, with a method and its clauses, takes more lines than it saves, and the trips are worked out after two tests only.
 fn turn_to_walking(arrays: &PlanArrays, depth: usize, state: &mut State) -> bool
     requires { depth ≤ depth_limit }
     ensures stands { state.new.at ≡ state.old.at }
@@ -143,12 +147,12 @@ fn turn_to_walking(arrays: &PlanArrays, depth: usize, state: &mut State) -> bool
     true
 }
 
-// The arms of a ranked loop that is left are dropped.
+// The arms of a loop that is left are dropped, if it is ranked.
 #[tactic(auto, unfolding(crate::specs::Pass::arms_left))]
-fn leave_arms(ranked: bool, opened: &mut Open)
-    ensures { opened.new ≡ arms_left ranked opened.old }
+fn leave_arms(limits: &Limits, number: usize, opened: &mut Open)
+    ensures { opened.new ≡ arms_left (ranked_at limits.now number) opened.old }
 {
-    if ranked {
+    if ranked_at(limits, number) {
         opened.arms.clear();
     }
 }
@@ -194,8 +198,7 @@ fn end_trip(arrays: &PlanArrays, depth: usize, state: &mut State) -> Outcome
         return open_trip(opener, depth, state);
     }
     leave_loop(limit, around, frame, trips, state);
-    let ranked = ranked_at(&arrays.limits, number);
-    leave_arms(ranked, &mut state.opened);
+    leave_arms(&arrays.limits, number, &mut state.opened);
     state.at += 1;
     Outcome {
         depth: around,

@@ -1,6 +1,7 @@
 // Passing straight work, and the records of choices.
-ghost use Rattle.std.specs.Prelude.{◌≡◌, List, ℕ};
-ghost use Rattle.passing.specs.Pass.{at_next, pass_straight_work, open_choice, leave_arm, keeps_arms_at, open_arm_kept, pass_choice, is_of_loop};
+ghost use Rattle.std.specs.Prelude.{◌≡◌};
+ghost use Rattle.layout.specs.Rows.{opener_at, frame_at};
+ghost use Rattle.passing.specs.Pass.{at_next, pass_straight_work, open_choice, keeps_arms_at, open_arm_kept, open_arm_joined, pass_choice, is_of_loop};
 
 use form::MAX_DEPTH;
 use layout::PlanArrays;
@@ -80,31 +81,33 @@ fn open_choice(rows: &Rows, state: &mut State)
     state.sums.reset();
 }
 
-// The open arm of a choice is left: at a next arm another opens, at the choice's end what it passed goes to what is around it.
-fn leave_arm(last: bool, frame: usize, state: &mut State)
-    ensures stands { state.new.at ≡ state.old.at }
-    ensures after { (rows : List ℕ) → leave_arm rows last frame state.old ≡ at_next state.new }
+// The open arm of a choice joins those passed of the choice's frame, and is kept where its arms are.
+fn join_arm(arrays: &PlanArrays, state: &mut State) -> usize
+    ensures value { result ≡ frame_at arrays.now.rows (opener_at arrays.now.rows state.old.at) }
+    ensures after { state.new ≡ open_arm_joined arrays.now.rows arrays.now.limits state.old }
 {
+    let choice = opener_at(&arrays.rows, state.at);
+    let frame = frame_at(&arrays.rows, choice);
+    keep_open_arm(arrays, choice, state.sums.passed, &mut state.opened);
     state.opened.pass_arm(frame, state.sums.passed);
-    if last {
-        state.opened.close_frame(frame, &mut state.sums);
-    } else {
-        state.sums.reset();
-    }
+    frame
 }
 
-// A choice, a next arm or a choice's end. The state stands at the record still; what follows it comes next.
+// A choice, a next arm or a choice's end: another arm opens, or what the arms passed goes to what is around the choice. The step past the record stays
+// with `evaluate_body`, since here it would ask where the state stands, and this contract asks nothing of its callers.
 pub fn pass_choice(arrays: &PlanArrays, state: &mut State)
     ensures stands { state.new.at ≡ state.old.at }
     ensures after { pass_choice arrays.now.rows arrays.now.limits state.old ≡ at_next state.new }
 {
-    let rows = &arrays.rows;
-    match role_at(rows, state.at) {
-        Role::Choice => open_choice(rows, state),
-        role => {
-            let choice = opener_at(rows, state.at);
-            keep_open_arm(arrays, choice, state.sums.passed, &mut state.opened);
-            leave_arm(role == Role::End, frame_at(rows, choice), state);
+    match role_at(&arrays.rows, state.at) {
+        Role::Choice => open_choice(&arrays.rows, state),
+        Role::End => {
+            let frame = join_arm(arrays, state);
+            state.opened.close_frame(frame, &mut state.sums);
+        },
+        _ => {
+            join_arm(arrays, state);
+            state.sums.reset();
         },
     }
 }

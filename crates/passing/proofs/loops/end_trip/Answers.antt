@@ -1,5 +1,6 @@
 -- With the limit that is left to the loop: where a further trip is to be visited, the trip joins and the next one opens; else the loop is left. Each is
 -- within what it asks.
+use Rattle.std.proofs.Common.{refl}
 use Rattle.passing.proofs.LoopLaws.{limit-below, has_room, leaves-within}
 use Rattle.passing.proofs.LoopLaws.{trip-follows, trip-leaves, trip-answered}
 use Rattle.passing.proofs.loops.end_trip.Goals as goal
@@ -34,4 +35,4 @@ returns c = let a = c.args in let m = a.arrays.now in
     trip-leaves m.rows m.differences m.limits a.depth c.turn_to_walking-walked.result c.turn_to_walking-walked.new.state c.turn_to_walking-walked.ensures.ends
     c.opener_at-opener.ensures c.frame_at-frame.ensures c.loop_at-number.ensures c.saturating_sub-around.ensures c.trips_at-trips.ensures
     c.step_at.ensures c.exactly-step.ensures c.add.ensures c.counter_at-counter.ensures c.limit_unless-limit.ensures c.visited_by.ensures
-    c.further.ensures c.if-further.false c.leave_loop.ensures c.ranked_at-ranked.ensures c.leave_arms.ensures
+    c.further.ensures c.if-further.false c.leave_loop.ensures refl c.leave_arms.ensures

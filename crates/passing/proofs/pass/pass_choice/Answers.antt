@@ -1,17 +1,22 @@
--- By the role: a choice opens its first arm; otherwise the open arm may be kept, and is left.
+-- By the role: a choice opens its first arm; otherwise the open arm joins those passed, and the choice ends or another arm opens.
 use Rattle.std.proofs.Common.{refl, ◌∙◌}
-use Rattle.passing.proofs.ChoiceLaws.{choice-opens, arm-left}
+use Rattle.passing.proofs.ChoiceLaws.{choice-opens, choice-ends, next-arm-opens}
 use Rattle.passing.proofs.pass.pass_choice.Goals as goal
 
 pub returns-in-Choice-clause-after : goal.returns-in-Choice-clause-after
 returns-in-Choice-clause-after c = let a = c.args in
     choice-opens a.arrays.now.rows a.state.now.at c.role_at.ensures a.arrays.now.limits a.state.now refl c.in-Choice.is ∙ c.open_choice.ensures.after
 
+pub returns-in-End-clause-after : goal.returns-in-End-clause-after
+returns-in-End-clause-after c = let a = c.args in
+    choice-ends a.arrays.now.rows a.state.now.at c.role_at.ensures a.arrays.now.limits a.state.now refl c.join_arm-frame.ensures.after
+    c.join_arm-frame.ensures.value c.in-End.is c.close_frame.ensures.sums_after c.close_frame.ensures.opened_after
+
 pub returns-in_default : goal.returns-in_default
 returns-in_default c = let a = c.args in
     record {
-      stands = c.leave_arm.ensures.stands;
+      stands = let j = c.join_arm.ensures.after in cc;
       after =
-          arm-left a.arrays.now.rows a.state.now.at c.role_at.ensures a.arrays.now.limits a.state.now refl c.in_default.not-Choice c.eq.ensures c.opener_at-choice.ensures
-          c.frame_at.ensures c.keep_open_arm.ensures ∙ c.leave_arm.ensures.after a.arrays.now.rows;
+          next-arm-opens a.arrays.now.rows a.state.now.at c.role_at.ensures a.arrays.now.limits a.state.now refl
+          c.join_arm.ensures.after c.in_default.not-Choice c.in_default.not-End c.reset.ensures;
     }
