@@ -23,10 +23,7 @@ pub(crate) fn evaluate_body(
     ensures { (body_evaluator arrays.now.rows arrays.now.differences arrays.now.limits count left depth state.old).after ≡ state.new }
 {
     pass_straight_work(&arrays.rows, count, state);
-    if left == 0 {
-        return;
-    }
-    if count <= state.at {
+    if left == 0 || count <= state.at {
         return;
     }
     let rest = left - 1;

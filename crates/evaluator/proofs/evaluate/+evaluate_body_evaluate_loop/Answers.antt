@@ -3,16 +3,19 @@ use Rattle.std.proofs.Common.{sym, ◌∙◌, arith}
 use Rattle.evaluator.specs.Machine.{body_evaluator}
 use Rattle.evaluator.proofs.MachineLaws.{body-done, body-past, body-loop, body-choice, loop-shallow, loop-begun, loop-on}
 use Rattle.evaluator.proofs.evaluate.+evaluate_body_evaluate_loop.Goals as goal
+use Rattle.evaluator.proofs.evaluate.+evaluate_body_evaluate_loop.Goals.{evaluate_body-then-left-eq0-via-then-left-eq0, evaluate_body-then-left-eq0-via-else-left-eq0+then-count-state}
 
 pub evaluate_body-returns-then-left-eq0 : goal.evaluate_body-returns-then-left-eq0
-evaluate_body-returns-then-left-eq0 t c = let a = c.args in let m = a.arrays.now in
-    body-done m.rows m.differences m.limits a.count a.left a.depth
-    a.state.now c.pass_straight_work.ensures c.if-left-eq0.true
-
-pub evaluate_body-returns-then-count-state : goal.evaluate_body-returns-then-count-state
-evaluate_body-returns-then-count-state t c = let a = c.args in let m = a.arrays.now in
-    body-past m.rows m.differences m.limits a.count a.left a.depth
-    a.state.now c.pass_straight_work.ensures c.if-left-eq0.false c.if-count-state.true
+evaluate_body-returns-then-left-eq0 t c =
+    let a = c.args in
+    let m = a.arrays.now in
+    elim c.then-left-eq0.branch [
+      | evaluate_body-then-left-eq0-via-then-left-eq0 w ↦
+          body-done m.rows m.differences m.limits a.count a.left a.depth a.state.now c.pass_straight_work.ensures w.if-left-eq0.true
+      | evaluate_body-then-left-eq0-via-else-left-eq0+then-count-state w ↦
+          body-past m.rows m.differences m.limits a.count a.left a.depth
+          a.state.now c.pass_straight_work.ensures w.if-left-eq0.false w.if-count-state.true
+    ]
 
 pub evaluate_body-returns-then-of_loop : goal.evaluate_body-returns-then-of_loop
 evaluate_body-returns-then-of_loop t c = let a = c.args in let m = a.arrays.now in
