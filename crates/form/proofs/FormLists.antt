@@ -23,8 +23,8 @@ use Rattle.meaning.specs.Form.{value}
 use Rattle.meaning.specs.Range.{scale, add_range, dot_range, range}
 use Rattle.meaning.specs.Closed.{push}
 use Rattle.form.specs.Packed.{form_of, blank_form}
-use Rattle.form.specs.Forms.{bounded, bounded_constant, ranges_between, range_within, value_at, push_of}
-use Rattle.form.proofs.Reckoned.{held, Reckoned, known, InWidth, bounded-three}
+use Rattle.form.specs.Forms.{size_limit, bounded, bounded_constant, ranges_between, range_within, value_at, push_of}
+use Rattle.form.proofs.Reckoned.{held, Reckoned, known, InWidth, bounded-three, bounded-size}
 
 -- ---- lists by their elements
 
@@ -69,12 +69,11 @@ dot-more xs ys k h l = rw add-one (go xs ys k h l)
     go (x ∷ xs) (y ∷ ys) zero h l = omega (arith, ints)
     go (x ∷ xs) (y ∷ ys) (suc k) h l = let e = go xs ys k (omega arith) (omega arith) in omega (arith, ints, e)
 
--- three numbers of a size
-pub small-three : (a b c : ℤ) {size : ℕ} → nat_abs a ≤ size → nat_abs b ≤ size → nat_abs c ≤ size → (k : ℕ) → nat_abs (at (a ∷ b ∷ c ∷ []) k) ≤ size
-small-three a b c ha hb hc zero = ha
-small-three a b c ha hb hc (suc zero) = hb
-small-three a b c ha hb hc (suc (suc zero)) = hc
-small-three a b c ha hb hc (suc (suc (suc k))) = omega arith
+-- numbers within the limit
+pub small-all : (xs : List ℤ) (k : ℕ) → nat_abs (at (map bounded xs) k) ≤ size_limit
+small-all [] k = omega arith
+small-all (x ∷ xs) zero = bounded-size x
+small-all (x ∷ xs) (suc k) = small-all xs k
 
 -- no more than three indexes take part in a form, and one that is not there counts as 0
 dot-row : (xs ys : List ℤ) → length xs ≡ index_factors → dot xs (bounded (at ys 0) ∷ bounded (at ys 1) ∷ bounded (at ys 2) ∷ []) ≡ dot xs (map bounded ys)

@@ -84,7 +84,7 @@ pub bounded-large : (z : ℤ) → size_limit < nat_abs z → bounded z ≡ pos z
 unfolding bounded
 bounded-large z h = ap (λ (b : Bool). cond b z (pos zero)) (lt-leb (nat_abs z) size_limit h)
 
-bounded-size : (z : ℤ) → nat_abs (bounded z) ≤ size_limit
+pub bounded-size : (z : ℤ) → nat_abs (bounded z) ≤ size_limit
 unfolding bounded
 bounded-size z = by-test (leb (nat_abs z) size_limit) refl
   where

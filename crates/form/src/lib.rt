@@ -13,7 +13,6 @@ ghost use Rattle.form.specs.Packed.{form_of};
 ghost use Rattle.form.specs.Forms.{wide_form, range_of, bounded, folded, ranges_between, range_within, value_at, push_of};
 
 use crate::packed::{INDEX_FACTORS, PARAMETER_FACTORS, PackedForm};
-
 // The most loops that stand in one another.
 pub const MAX_DEPTH: usize = 4;
 
@@ -52,6 +51,7 @@ fn limited(x: i64) -> i64
 }
 
 // The differences of the factors of two forms.
+// Stays a loop over an index: tried with `from_fn`, where the closure's inferred contract says nothing of its result, since it reads arrays of N.
 fn differences<const N: usize>(x: [i8; N], y: [i8; N]) -> [i16; N]
     ensures { result ≡ Z.subtract_lists x.entry y.entry }
 {
@@ -77,10 +77,10 @@ fn sum_of_products<const N: usize, const LARGEST: u64>(factors: [i16; N], number
 }
 
 // The sum of the products of a form's three factors and the numbers of three indexes.
-fn dot(index: [i16; INDEX_FACTORS], x: i64, y: i64, z: i64) -> i64
-    ensures { (result ≡ Z.dot index (bounded x ∷ bounded y ∷ bounded z ∷ [])) × (nat_abs result ≤ index_factors * 2 ^ 61) }
+fn dot(index: [i16; INDEX_FACTORS], numbers: [i64; INDEX_FACTORS]) -> i64
+    ensures { (result ≡ Z.dot index (map bounded numbers)) × (nat_abs result ≤ index_factors * 2 ^ 61) }
 {
-    sum_of_products::<INDEX_FACTORS, LIMIT>(index, [limited(x), limited(y), limited(z)])
+    sum_of_products::<INDEX_FACTORS, LIMIT>(index, numbers.map(limited))
 }
 
 // All four parameters' shares of a form's value.
@@ -105,7 +105,7 @@ fn smallest(index: [i16; INDEX_FACTORS], lo: PerLoop, hi: PerLoop) -> i64
     let x = end(index[0], lo[0], hi[0]);
     let y = end(index[1], lo[1], hi[1]);
     let z = end(index[2], lo[2], hi[2]);
-    dot(index, x, y, z)
+    dot(index, [x, y, z])
 }
 
 impl Form {
@@ -124,12 +124,10 @@ impl Form {
     pub fn fold(self, parameters: Parameters) -> Form
         ensures { wide_form result ≡ folded parameters (wide_form self) }
     {
-        let factors = self.parameter;
         let index = self.index;
-        let within = limited(self.constant);
         Form {
-            constant: within + shares(factors, parameters),
-            index: index,
+            constant: limited(self.constant) + shares(self.parameter, parameters),
+            index,
             parameter: [0; PARAMETER_FACTORS],
         }
     }
@@ -138,11 +136,10 @@ impl Form {
     pub fn range(self, lo: PerLoop, hi: PerLoop) -> Range
         ensures { range_of result ≡ range_within (wide_form self) lo hi }
     {
-        let index = self.index;
         let within = limited(self.constant);
         Range {
-            lo: within + smallest(index, lo, hi),
-            hi: within + smallest(index, hi, lo),
+            lo: within + smallest(self.index, lo, hi),
+            hi: within + smallest(self.index, hi, lo),
         }
     }
 
@@ -150,21 +147,18 @@ impl Form {
     pub fn at(self, indexes: PerLoop) -> i64
         ensures { result ≡ value_at (wide_form self) indexes }
     {
-        let index = self.index;
-        let within = limited(self.constant);
-        within + dot(index, indexes[0], indexes[1], indexes[2])
+        let [x, y, z, _] = indexes;
+        limited(self.constant) + dot(self.index, [x, y, z])
     }
 
     // What the next trip of loop m adds to the value: its pushes on the indexes are row m.
     pub fn push(self, pushes: [PerLoop; MAX_DEPTH], m: usize) -> i64
         ensures { result ≡ push_of (wide_form self) (get_or pushes m []) }
     {
-        if MAX_DEPTH <= m {
+        let Some(&[x, y, z, _]) = pushes.get(m) else {
             return 0;
-        }
-        let index = self.index;
-        let row = pushes[m];
-        dot(index, row[0], row[1], row[2])
+        };
+        dot(self.index, [x, y, z])
     }
 }
 

@@ -15,10 +15,10 @@ module _ (c : goal.After-shares) where
   abbrev start : goal.After-shares
   start = c
 
-  sum_is : Reckoned (held w64 c.limited-within.result +ℤ held w64 c.shares.result)
+  sum_is : Reckoned (held w64 c.limited.result +ℤ held w64 c.shares.result)
       (bounded start.args.self.constant +ℤ dot start.args.self.parameter start.args.parameters) (size_limit + 2 ^ 32)
   sum_is =
-      add (limited {z = start.args.self.constant} (record { sfits = c.struct_told-1.given.0.1 }) c.limited-within.ensures)
+      add (limited {z = start.args.self.constant} (record { sfits = c.struct_told-1.given.0.1 }) c.limited.ensures)
       (known c.shares.ensures.0 c.shares.ensures.1 (omega arith)) (omega arith)
 
 pub overflow_add-result : goal.overflow_add-result
