@@ -5,7 +5,7 @@ pub mod loops;
 pub mod work;
 
 ghost use Rattle.std.specs.Prelude.{◌≡◌};
-ghost use Rattle.meaning.specs.Record.{kind_number, kind_of};
+ghost use Rattle.meaning.specs.Record.{kind_number, kind_of, body_length};
 ghost use Rattle.records.specs.View.{meant, meant_kind, is_kind, is_loop, blank_record, decoded, length_of_kind};
 
 use crate::loops::Loop;
@@ -47,6 +47,19 @@ impl Kind {
     {
         self as u8
     }
+
+    // The length of a body of this kind.
+    #[tactic(auto, unfolding(meaning::specs::Record::body_length))]
+    pub fn body_length(self) -> usize
+        ensures { result ≡ body_length (meant_kind self) }
+    {
+        match self {
+            Kind::Work => Work::BODY_LENGTH,
+            Kind::Loop => Loop::BODY_LENGTH,
+            Kind::SkipLoop => Loop::SKIP_BODY_LENGTH,
+            Kind::End | Kind::Choice | Kind::NextArm => 0,
+        }
+    }
 }
 
 pub const MAX_RECORDS: usize = 128;
@@ -75,7 +88,7 @@ impl Record {
         ensures { result ≡ blank_record kind }
     {
         Record {
-            kind: kind,
+            kind,
             work: Work::blank(),
             looping: Loop::blank(),
         }
@@ -121,14 +134,9 @@ pub fn is_loop(kind: u8) -> bool
 }
 
 // The length of a kind's body; 0 for a number that is no kind.
-#[tactic(auto, unfolding(crate::specs::View::length_of_kind, crate::specs::View::length_of, meaning::specs::Record::body_length))]
+#[tactic(auto, unfolding(crate::specs::View::length_of_kind, crate::specs::View::length_of))]
 pub fn body_length(kind: u8) -> usize
     ensures { result ≡ length_of_kind kind }
 {
-    match Kind::of(kind) {
-        Some(Kind::Work) => Work::BODY_LENGTH,
-        Some(Kind::Loop) => Loop::BODY_LENGTH,
-        Some(Kind::SkipLoop) => Loop::SKIP_BODY_LENGTH,
-        Some(Kind::End | Kind::Choice | Kind::NextArm) | None => 0,
-    }
+    Kind::of(kind).map_or(0, Kind::body_length)
 }

@@ -11,7 +11,7 @@ ghost use Rattle.records.specs.View.{blank_loop, loop_of, skip_in};
 use encoding::number::{byte_at, signed8_at, signed16_at, unsigned16_at};
 use form::packed::{INDEX_FACTORS, PackedForm};
 
-// A negative stride counts down. Of kind 2, which has no skip of its own, the skip's field is 0.
+// A negative stride counts down.
 #[derive(Clone, Copy, PartialEq, Eq)]
 pub struct Loop {
     pub start: u16,
@@ -19,6 +19,7 @@ pub struct Loop {
     pub stride: i16,
     pub lower: PackedForm,
     pub upper: PackedForm,
+    // 0 of kind 2, which has no skip of its own. Stays a number, since the writer refuses 3 for a loop of kind 2 over any other (`foreign_fields_zero`).
     pub skip: u16,
 }
 
@@ -104,7 +105,8 @@ impl Loop {
         }
     }
 
-    // The fields of a body, which has a skip or has none. Stays a flag, since the meaning's kind of a loop is one (`loop_kind has_skip`).
+    // The fields of a body, which has a skip or has none.
+    // Stays a flag, since docs/landings/C-12.md promises that `decode` and `in_range` take whether there is a skip.
     pub fn decode(body: &[u8], skips: bool) -> Loop
         ensures fields { M.loop_record (loop_of skips result) ≡ decode_record (loop_kind skips) body.now }
         ensures blank { skips ≡ false → result.skip ≡ 0 }
@@ -119,14 +121,14 @@ impl Loop {
         }
     }
 
-    // A stride without its sign.
+    // A stride without its sign. Stays beside std's method, since docs/DECISIONS.md names it.
     pub fn stride_size(stride: i16) -> u16
         ensures { result ≡ nat_abs stride }
     {
         stride.unsigned_abs()
     }
 
-    // Whether a loop with this stride counts down.
+    // Whether a loop with this stride counts down. Stays beside std's `is_negative`, since docs/DECISIONS.md names it.
     pub fn counts_down(stride: i16) -> bool
         ensures { result ≡ lt_z stride (pos 0) }
     {
