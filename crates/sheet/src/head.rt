@@ -6,9 +6,10 @@ ghost use Rattle.sheet.specs.Answers.{head_result};
 use crate::refusal::{Refusal, RefusalKind};
 use records::{body_length, is_kind};
 
-// A record's kind, and where its body begins and how long it is. Stays a number, since a record and `accept_record` take one.
+// A record's kind, and where its body begins and how long it is.
 #[derive(Clone, Copy, PartialEq, Eq)]
 pub struct Head {
+    // Stays a number, since `accept_record` takes one, whose clause `numbers` speaks of any number.
     pub kind: u8,
     pub offset: usize,
     pub length: usize,
@@ -17,10 +18,9 @@ pub struct Head {
 pub fn head_at(sheet: &[u8], at: usize) -> Result<Option<Head>, Refusal>
     ensures { head_result result ≡ head_at sheet.now at }
 {
-    if sheet.len() <= at {
+    let Some(&kind) = sheet.get(at) else {
         return Ok(None);
-    }
-    let kind = sheet[at];
+    };
     if !is_kind(kind) {
         return Err(Refusal {
             kind: RefusalKind::UnknownKind,
@@ -35,9 +35,9 @@ pub fn head_at(sheet: &[u8], at: usize) -> Result<Option<Head>, Refusal>
         });
     }
     Ok(Some(Head {
-        kind: kind,
+        kind,
         offset: at + 1,
-        length: length,
+        length,
     }))
 }
 

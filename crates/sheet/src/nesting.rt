@@ -1,5 +1,5 @@
 // What is open where a record stands, and refusals 3 and 5 of a record there.
-ghost use Rattle.std.specs.Prelude.{◌≡◌, List, [], ◌≤◌, length};
+ghost use Rattle.std.specs.Prelude.{◌≡◌, List, [], length, if◌then◌else◌};
 ghost use Rattle.std.proofs.Math.Option.{some};
 ghost use Rattle.meaning.specs.Record as M;
 ghost use Rattle.meaning.specs.Record.{kind_of, body_length, decode_record, Open, loop_depth};
@@ -15,6 +15,7 @@ use records::work::Work;
 use records::{Kind, MAX_OPEN};
 
 // How many records are open, how many of these are loops, and which: bit 0 of `loops` is 1 where the innermost is a loop, and so on outward.
+// Stays three numbers with no invariant, since docs/PROOFS.md has `accept_record` and `Nesting::after` promise for any three.
 #[derive(Clone, Copy, PartialEq, Eq)]
 pub struct Nesting {
     pub size: usize,
@@ -77,26 +78,24 @@ impl Nesting {
         ensures open { (os us : List Open) → self ≡ nesting_of os → open_after_kind os kind ≡ some us → result ≡ nesting_of us }
     {
         match Kind::of(kind) {
-            Some(Kind::Loop | Kind::SkipLoop) => self.extended(1),
-            Some(Kind::Choice) => self.extended(0),
+            Some(Kind::Loop | Kind::SkipLoop) => self.extended(true),
+            Some(Kind::Choice) => self.extended(false),
             Some(Kind::End) => self.closed(),
             Some(Kind::Work | Kind::NextArm) | None => self,
         }
     }
 
     // One more open record: a loop's digit is 1, a choice's 0. Where another may open, the remainder loses no digit.
-    // Stays a number, since the digit is added to both numbers as it is.
-    fn extended(self, digit: u64) -> Nesting
-        requires { digit ≤ 1 }
-        ensures { result ≡ extended_nesting self digit }
+    fn extended(self, is_loop: bool) -> Nesting
+        ensures { result ≡ extended_nesting self (if is_loop then 1 else 0) }
     {
         if MAX_OPEN <= self.size || MAX_OPEN <= self.depth {
             return self;
         }
         Nesting {
             size: self.size + 1,
-            depth: self.depth + digit as usize,
-            loops: self.loops % DIGITS * 2 + digit,
+            depth: self.depth + usize::from(is_loop),
+            loops: self.loops % DIGITS * 2 + u64::from(is_loop),
         }
     }
 
@@ -142,9 +141,8 @@ pub fn accept_record(
             offset: at,
         });
     }
-    let after = here.after(kind);
     Ok(AcceptedRecord {
         length: 1 + body.len(),
-        after: after,
+        after: here.after(kind),
     })
 }

@@ -43,6 +43,7 @@ pub fn check_sheet(sheet: &[u8]) -> Result<usize, Refusal>
     let mut at: usize = 0;
     let mut count: usize = 0;
     let mut here = Nesting::nothing();
+    // Stays a loop over an offset, since records have different lengths, which each record's kind says: no slice's method splits a sheet so.
     while at < sheet.len() {
         if MAX_RECORDS <= count {
             return Err(Refusal {
@@ -94,8 +95,5 @@ pub fn read_sheet(sheet: &[u8]) -> RecordsRead
     let answer = check_sheet(sheet);
     let count = answer.unwrap_or(0);
     let records = decode_all(sheet, count);
-    RecordsRead {
-        records: records,
-        answer: answer,
-    }
+    RecordsRead { records, answer }
 }

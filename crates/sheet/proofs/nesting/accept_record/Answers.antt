@@ -46,7 +46,7 @@ returns c =
     let n =
     number-none a.at a.here a.kind a.body.now
     (sym c.if-not-fields_in_range.false ∙ fields.ensures (replicate depth open_loop) (loops-around depth) ∙ ap (fields_pass_as (replicate depth open_loop) a.body.now) c.of-known.ensures)
-    (sym c.if-not-allows.false ∙ allows.ensures ∙ ap (may_stand_in_as a.here) c.of-known.ensures) c.after-after.ensures.numbers in
+    (sym c.if-not-allows.false ∙ allows.ensures ∙ ap (may_stand_in_as a.here) c.of-known.ensures) c.after.ensures.numbers in
     record {
       numbers = n;
       records = λ os k e named long. n ∙ accept-is a.at a.here a.kind a.body.now os k e named long;
