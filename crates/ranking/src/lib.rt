@@ -12,6 +12,7 @@ use crate::lead::{Lead, first_lead, next_lead, turned};
 use crate::series::{Series, series_of};
 use records::MAX_RECORDS;
 use state::bounds::Bounds;
+use std::array::from_fn;
 
 // Each arm has a record of its own: its choice's, or the next arm's.
 const MAX_TRIP_ARMS: usize = MAX_RECORDS;
@@ -44,10 +45,8 @@ impl KeptArms<'_> {
         requires { (self.per_trip ≤ trip_arms_limit) × ((arm < self.per_trip) × (trip < 4)) }
         ensures { result ≡ arm_in self.entry.arms.now self.entry.per_trip trip arm }
     {
-        match self.arms.get(trip * self.per_trip + arm) {
-            Some(bounds) => *bounds,
-            None => Bounds::exactly(0),
-        }
+        let number = trip * self.per_trip + arm;
+        self.arms.get(number).copied().unwrap_or(Bounds::exactly(0))
     }
 
     // The series of an arm's most.
@@ -56,13 +55,7 @@ impl KeptArms<'_> {
         requires { (self.per_trip ≤ trip_arms_limit) × (arm < self.per_trip) }
         ensures { result ≡ most_series self.entry.arms.now self.entry.trips self.entry.per_trip arm }
     {
-        series_of(
-            self.trips,
-            self.at(0, arm).most,
-            self.at(1, arm).most,
-            self.at(2, arm).most,
-            self.at(3, arm).most,
-        )
+        series_of(self.trips, from_fn(|trip| self.at(trip, arm).most))
     }
 
     // The series of its least, turned, so that the smallest coefficient is the largest word.
@@ -71,13 +64,7 @@ impl KeptArms<'_> {
         requires { (self.per_trip ≤ trip_arms_limit) × (arm < self.per_trip) }
         ensures { result ≡ least_series self.entry.arms.now self.entry.trips self.entry.per_trip arm }
     {
-        turned(series_of(
-            self.trips,
-            self.at(0, arm).least,
-            self.at(1, arm).least,
-            self.at(2, arm).least,
-            self.at(3, arm).least,
-        ))
+        turned(series_of(self.trips, from_fn(|trip| self.at(trip, arm).least)))
     }
 
     // After the first arm.
@@ -117,7 +104,8 @@ impl KeptArms<'_> {
     }
 }
 
-// Whether a choice is settled, of whose `own` arms arm `first` is the first one. Where no choice is meant by that, it is not.
+// Whether a choice is settled, of whose `own` arms arm `first` is the first one. Where no choice is meant by that, it is not. Stays open to any numbers,
+// in place of a choice's arms as a type that holds the tests, since docs/PROOFS.md promises the answer for any.
 pub fn settled_choice(kept: KeptArms, first: usize, own: usize) -> bool
     ensures { result ≡ settled_choice kept.entry.arms.now kept.entry.trips kept.entry.per_trip first own }
 {

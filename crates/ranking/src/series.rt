@@ -1,6 +1,8 @@
 // The Newton series of one arm's sums, as words that compare as its coefficients do.
-ghost use Rattle.std.specs.Prelude.{◌≡◌, ◌+◌, ◌%◌, ◌^◌, if◌then◌else◌, nat_lt};
+ghost use Rattle.std.specs.Prelude.{◌≡◌, ◌+◌, ◌%◌, ◌^◌, if◌then◌else◌, nat_lt, slice_index};
 ghost use Rattle.ranking.specs.Series.{series_of};
+
+use newton::differences;
 
 // 2^63: added to signed words, it makes them compare as unsigned ones do.
 const HALF: u64 = 0x8000_0000_0000_0000;
@@ -25,21 +27,16 @@ fn rank_known(order: u64, count: u64, word: u64) -> u64
 }
 
 // The series of the first `count` of four values.
-pub fn series_of(count: u64, first: u64, second: u64, third: u64, fourth: u64) -> Series
-    ensures { result ≡ series_of count first second third fourth }
+pub fn series_of(count: u64, values: [u64; ORDERS]) -> Series
+    ensures { result ≡ series_of count (slice_index values 0) (slice_index values 1) (slice_index values 2) (slice_index values 3) }
 {
-    let first_difference = second.wrapping_sub(first);
-    let next_first = third.wrapping_sub(second);
-    let last_first = fourth.wrapping_sub(third);
-    let second_difference = next_first.wrapping_sub(first_difference);
-    let next_second = last_first.wrapping_sub(next_first);
-    let third_difference = next_second.wrapping_sub(second_difference);
+    let [value, first, second, third] = differences(values);
     Series {
         words: [
-            rank_known(0, count, first),
-            rank_known(1, count, first_difference),
-            rank_known(2, count, second_difference),
-            rank_known(3, count, third_difference),
+            rank_known(0, count, value),
+            rank_known(1, count, first),
+            rank_known(2, count, second),
+            rank_known(3, count, third),
         ],
     }
 }
