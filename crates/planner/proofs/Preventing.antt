@@ -19,6 +19,7 @@ use Rattle.whole.specs.Integer.{floor_remainder, divides}
 use Rattle.meaning.specs.Limits.{index_factors, depth_limit}
 use Rattle.layout.specs.Loops.{choice_depth_at, enough_at, limit_number, push_word_at, rank_depth_at, stride_at, word_of}
 use Rattle.layout.specs.Rows.{depth_at, end_at, loop_at, role_at, role_number}
+use Rattle.std.specs.List.{list_any, range_with_len}
 use Rattle.planner.specs.Known.{KnownFacts, KnownInside}
 use Rattle.planner.specs.Closing.{bars_closing, bars_ranking, class_among, height_above, is_ranked, limit_of, number_among, number_of, prevents, some_prevents, some_uneven, uneven_at, word_size}
 use Rattle.meaning.specs.Closed.{closed_class, ranked_class, walked_class}
@@ -88,6 +89,20 @@ module _ {differences facts : List ℕ} {j : ℕ} {f : LoopFacts} (known : Known
   unfolding some_uneven
   uneven-none {m} h = sym (ap (some_uneven f.stride) (drop_of_length-le f.pushes {i = m} (omega (arith, known.few))))
 
+  -- the search over the loops M from the one with m loops around it inward
+  pub uneven-among : (n m : ℕ) → n ≡ index_factors - m → list_any (uneven_at differences j) (range_with_len m n) ≡ some_uneven f.stride (drop m f.pushes)
+  uneven-among zero m e = uneven-none (omega (arith, e))
+  uneven-among (suc n) m e = go (uneven_at differences j m) refl (uneven-among n (m + 1) (omega (arith, e)))
+    where
+      less : m < index_factors
+      less = omega (arith, e)
+
+      go : (c : Bool) → uneven_at differences j m ≡ c →
+          list_any (uneven_at differences j) (range_with_len (m + 1) n) ≡ some_uneven f.stride (drop (m + 1) f.pushes) →
+          uneven_at differences j m || list_any (uneven_at differences j) (range_with_len (m + 1) n) ≡ some_uneven f.stride (drop m f.pushes)
+      go true u later = ap (λ (c : Bool). c || list_any (uneven_at differences j) (range_with_len (m + 1) n)) u ∙ uneven-found less refl u
+      go false u later = ap (λ (c : Bool). c || list_any (uneven_at differences j) (range_with_len (m + 1) n)) u ∙ later ∙ sym (uneven-next less refl u)
+
   -- ---- the three tests
 
   module _ {depth rank : ℕ} (rank_is : rank ≡ rank_depth_at facts j) where
@@ -119,12 +134,6 @@ by-choice depth f e = go (ltb depth f.rank_depth) (not f.enough) (some_uneven f.
     go false false true h c = true-is-not-false h
     go false false false h true = refl
     go false false false h false = refl
-
--- ---- the search over the loops M
-
-pub record Evenly (differences : List ℕ) (j depth m : ℕ) : Type 0 where
-  pub rest : (facts : List ℕ) (f : LoopFacts) → KnownFacts differences facts j f →
-      some_uneven f.stride (drop depth f.pushes) ≡ some_uneven f.stride (drop m f.pushes)
 
 max-less : (a b d : ℕ) → max (a - d) (b - d) ≡ max a b - d
 max-less a b d = omega arith

@@ -3,15 +3,22 @@ use mathlib.Core.Bool.{Bool, cond, false, not, true, ◌&&◌}
 use mathlib.Core.List.{List, [], ◌∷◌, ◌++◌}
 use mathlib.Core.Option.{Option, none, some}
 use mathlib.Core.Path.{ap, ap₂, refl, sym, ◌∙◌, ◌≡◌}
-use Prim.Native.Nat.{◌%◌, ◌+◌, ◌-◌, ◌<◌, suc, ℕ, ◌≤◌, min}
+use Prim.Native.Nat.{◌%◌, ◌+◌, ◌-◌, ◌<◌, zero, suc, ℕ, ◌≤◌, min}
 use native.Mathlib.Numerals.{add-one}
 use native.Mathlib.Omega.{arith}
 use borrow.Author.Tests.{eq-eqb, ne_eqb}
 use lib.Dec.{eqb}
 use Rattle.meaning.proofs.Logic.{none-is-not-some, true-is-not-false}
+use Rattle.std.specs.Prelude as Std
+use Rattle.std.specs.Prelude.{Some, None, MatchOption, IsSomeAnd}
+use Rattle.reasons.specs.View.{found_in}
+use Rattle.reasons.specs.declared.Reason as Code
+use Rattle.reasons.specs.declared.Reason.TheVariants as code
+use Rattle.std.specs.List.{find, range_with_len}
+use Rattle.std.specs.Option.{option_map}
 use Rattle.meaning.specs.Limits.{index_factors, record_limit}
 use Rattle.meaning.specs.Reason.{Reason, Test, first_failing, holds_loop, too_few_trips, uneven_in}
-use Rattle.layout.specs.Rows.{choice_role, depth_at, loop_at, loop_role, offset_at, role_at, role_number}
+use Rattle.layout.specs.Rows.{choice_role, depth_at, end_at, loop_at, loop_role, offset_at, role_at, role_number}
 use Rattle.layout.specs.Loops.{enough_at}
 use Rattle.planner.specs.Closing.{uneven_at}
 use Rattle.planner.specs.Reasons.{choice_tests_at, choice_tests_inside, holds_loop_at, loop_around, loop_tests_at, loop_tests_inside, reason_at, tests_from, uneven_test_at}
@@ -100,6 +107,52 @@ module _ (rows : List ℕ) (i : ℕ) {holds : Bool} (holds_is : holds ≡ eqb (r
       go true b f = one-fails (holds_loop (offset_at rows i)) b f ∙ ap (λ (n : ℕ). some (holds_loop n)) (sym p)
       go false b f = true-is-not-false (sym f)
 
+-- the reason of the choice that the search finds
+pub choice_found : List ℕ → Std.Option ℕ → Option Reason
+choice_found rows None = none
+choice_found rows (Some i) = some (holds_loop (offset_at rows i))
+
+abbrev pub holds : List ℕ → ℕ → Bool
+holds rows i = eqb (role_at rows i) (role_number choice_role) && holds_loop_at rows i
+
+choices-from : (rows : List ℕ) (n i : ℕ) → choice_found rows (find (holds rows) (range_with_len i n)) ≡ first_failing (tests_from (choice_tests_at rows) i n)
+unfolding tests_from first_failing choice_found
+choices-from rows zero i = refl
+choices-from rows (suc n) i = go (holds rows i) refl (choices-from rows n (i + 1))
+  where
+    rest : List Test
+    rest = tests_from (choice_tests_at rows) (suc i) n
+
+    found : Bool → Option Reason
+    found c = choice_found rows (cond c (Some i) (find (holds rows) (range_with_len (i + 1) n)))
+
+    go : (c : Bool) → holds rows i ≡ c →
+        choice_found rows (find (holds rows) (range_with_len (i + 1) n)) ≡ first_failing (tests_from (choice_tests_at rows) (i + 1) n) →
+        found (holds rows i) ≡ first_failing (choice_tests_at rows i ++ rest)
+    go true e later = ap found e ∙ sym (first_stops (choice_tests_at rows i) rest (choice-fails rows i refl e refl))
+    go false e later =
+        ap found e ∙ later ∙ ap (λ (k : ℕ). first_failing (tests_from (choice_tests_at rows) k n)) (add-one i)
+        ∙ sym (first_passes (choice_tests_at rows i) rest (choice-passes rows i refl e))
+
+pub choices-inside : (rows : List ℕ) (number : ℕ) {end : ℕ} → end ≡ end_at rows number →
+    choice_found rows (find (holds rows) (range_with_len (number + 1) (end - (number + 1)))) ≡ first_failing (choice_tests_inside rows number)
+unfolding choice_tests_inside
+choices-inside rows number {end} e =
+    choices-from rows (end - (number + 1)) (number + 1)
+    ∙ (λ t. first_failing (tests_from (choice_tests_at rows) (add-one number t) (e t - add-one number t)))
+
+pub choice-read : (rows : List ℕ) (found : Std.Option ℕ) (answer : Std.Option Code.Reason) {Gives : ℕ → Code.Reason → Type 0} →
+    MatchOption found (answer ≡ None) (λ i. IsSomeAnd answer (Gives i)) → ((i : ℕ) (r : Code.Reason) → Gives i r → r ≡ code.HoldsLoop (offset_at rows i)) →
+    found_in answer ≡ choice_found rows found
+unfolding choice_found
+choice-read rows None answer h gives = ap found_in h
+choice-read rows (Some i) None h gives = absurd h
+choice-read rows (Some i) (Some r) h gives = ap (λ (q : Code.Reason). found_in (Some q)) (gives i r h)
+
+pub found_as : (found : Std.Option ℕ) → found ≡ option_map (λ i. i) found
+found_as None = refl
+found_as (Some i) = refl
+
 -- ---- the loop around a record
 
 module _ (rows : List ℕ) (m i : ℕ) {is : Bool} (is_is : is ≡ eqb (role_at rows i) (role_number loop_role) && eqb (depth_at rows i) m) where
@@ -160,3 +213,9 @@ module _ (rows differences facts : List ℕ) (number : ℕ) where
       found ≡ first_failing (loop_tests_inside rows differences facts (number % record_limit)) → found ≡ reason_at rows differences facts number
   unfolding reason_at
   reason-loop e f = f ∙ sym (first_passes (choice_tests_inside rows (number % record_limit)) (loop_tests_inside rows differences facts (number % record_limit)) (sym e))
+
+  pub reason-read : (first answer : Std.Option Code.Reason) → found_in first ≡ first_failing (choice_tests_inside rows (number % record_limit)) → {Gives : Type 0} →
+      MatchOption first Gives (λ r. answer ≡ Some r) → (Gives → found_in answer ≡ first_failing (loop_tests_inside rows differences facts (number % record_limit))) →
+      found_in answer ≡ reason_at rows differences facts number
+  reason-read None answer e h gives = reason-loop e (gives h)
+  reason-read (Some r) answer e h gives = ap found_in h ∙ reason-choice e

@@ -38,12 +38,7 @@ pub(crate) fn uneven_in(differences: &Differences, loop_number: usize, m: usize)
 fn uneven(differences: &Differences, loop_number: usize, depth: usize) -> bool
     ensures { (facts : List ℕ) (f : LoopFacts) → KnownFacts differences.now facts loop_number f → result ≡ some_uneven f.stride (drop depth f.pushes) }
 {
-    for m in depth..MAX_AROUND {
-        if uneven_in(differences, loop_number, m) {
-            return true;
-        }
-    }
-    false
+    (depth..MAX_AROUND).any(|m| uneven_in(differences, loop_number, m))
 }
 
 // Whether loop K keeps a loop with `depth` loops around it from being ranked, and so from being closed.
@@ -62,7 +57,8 @@ fn barred(before: bool, facts: &Facts, loop_number: usize, depth: usize) -> bool
     before || depth < choice_depth_at(facts, loop_number)
 }
 
-// The number that is stored of a loop: how many trips it visits at most, and whether it is ranked; 0 where it is walked.
+// The number that is stored of a loop: how many trips it visits at most, and whether it is ranked; 0 where it is walked. Stays a number, since the clause
+// `limits` of `plan` promises it.
 fn limit(arrays: &PlanArrays, number: usize) -> u16
     requires { number < 2 ^ 16 }
     ensures { (fs : List (Option LoopFacts)) → KnownInside arrays.now.rows arrays.now.differences arrays.now.facts number fs →

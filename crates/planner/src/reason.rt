@@ -30,12 +30,9 @@ fn first_choice(rows: &Rows, number: usize) -> Option<Reason>
     requires { number < record_limit }
     ensures { found_in result ≡ first_failing (choice_tests_inside rows.now number) }
 {
-    for i in number + 1..end_at(rows, number) {
-        if holds_loop(rows, i) {
-            return Some(Reason::HoldsLoop(place_at(rows, i)));
-        }
-    }
-    None
+    (number + 1..end_at(rows, number))
+        .find(|i| holds_loop(rows, *i))
+        .map(|i| Reason::HoldsLoop(place_at(rows, i)))
 }
 
 // Whether a record is a loop with m loops around it.
@@ -93,8 +90,5 @@ pub fn reason_of(arrays: &PlanArrays, number: usize) -> Option<Reason>
         found_in result ≡ reason_of parameters l (tree ys) (loops_around parameters xs).ranges (sheet_length xs) }
 {
     let n = number % MAX_RECORDS;
-    match first_choice(&arrays.rows, n) {
-        Some(reason) => Some(reason),
-        None => first_loop(arrays, n),
-    }
+    first_choice(&arrays.rows, n).or_else(|| first_loop(arrays, n))
 }

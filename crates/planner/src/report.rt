@@ -9,7 +9,7 @@ use crate::reason::reason_of;
 use layout::PlanArrays;
 use layout::facts::ceiling_at;
 use layout::limits::{limit_at, ranked_at};
-use layout::rows::{Role, loop_at, offset_at, role_at};
+use layout::rows::{Role, loop_at, place_at, role_at};
 use reasons::Reason;
 
 #[derive(Clone, Copy, PartialEq, Eq)]
@@ -63,7 +63,7 @@ pub fn report_of(arrays: &PlanArrays, number: usize) -> Option<LoopReport>
         ranked_at(&arrays.limits, of_loop),
     );
     Some(LoopReport {
-        offset: offset_at(&arrays.rows, number) as u64,
+        offset: u64::from(place_at(&arrays.rows, number)),
         class,
         ceiling: ceiling_at(&arrays.facts, of_loop),
         reason: reason_by(class, arrays, number),

@@ -1,19 +1,14 @@
--- The invariant: the pushes from `m` on settle whether one from `depth` on is no multiple of the stride.
-use mathlib.Core.Path.{sym, ◌∙◌}
-use Rattle.planner.proofs.Preventing.{uneven-found, uneven-next, uneven-none}
+-- The search goes over the loops from the one with `depth` loops around it inward.
+use mathlib.Core.Path.{refl, ◌∙◌}
+use borrow.Author.Rules.{rules}
+use borrow.Author.Tests.{tests}
+use Rattle.std.proofs.lemmas.Iterator.{YieldsList-from_range}
+use Rattle.std.proofs.lemmas.Iterator.Search.{any_from_yields_List}
+use Rattle.planner.specs.Closing.{uneven_at}
+use Rattle.planner.proofs.Preventing.{uneven-among}
 use Rattle.planner.proofs.closing.uneven.Goals as goal
 
-pub returns-then-uneven_in : goal.returns-then-uneven_in
-returns-then-uneven_in c facts f known =
-    uneven-found known c.loop-m-test.true c.uneven_in.ensures c.if-uneven_in.true ∙ sym (c.loop-m.invariant.rest facts f known)
-
-pub loop-m-preserved : goal.loop-m-preserved
-loop-m-preserved c =
-    record {
-      rest = λ facts f known.
-          c.loop-m.invariant.rest facts f known
-          ∙ uneven-next known c.loop-m-test.true c.uneven_in.ensures c.if-uneven_in.false;
-    }
-
 pub returns : goal.returns
-returns c facts f known = uneven-none known c.loop-m-test.false ∙ sym (c.loop-m.invariant.rest facts f known)
+returns c facts f known =
+    any_from_yields_List (uneven_at c.args.differences.now c.args.loop_number) _ _ c.any.result c.any.ensures.ran (YieldsList-from_range c.args.depth 3 _ refl refl) (λ x b q k. search (rules, tests))
+    ∙ uneven-among known _ c.args.depth refl

@@ -1,24 +1,17 @@
--- The invariant: the choices from record `i` on settle what is found.
-use mathlib.Core.Path.{refl}
-use Rattle.planner.specs.Reasons.{choice_tests_at, choice_tests_inside}
-use Rattle.planner.proofs.Searching.{search-start-at, search-done, search-found, search-next, choice-fails, choice-passes}
+-- The first record that is such a choice is the first test that fails.
+use mathlib.Core.Path.{refl, ◌∙◌}
+use mathlib.Core.Path.{ap}
+use borrow.Author.Rules.{rules}
+use borrow.Author.Tests.{tests}
+use Rattle.std.proofs.lemmas.Iterator.{YieldsList-from_range}
+use Rattle.std.proofs.lemmas.Iterator.Search.{find_from_yields_List}
+use Rattle.planner.proofs.Searching.{choice_found, found_as, choice-read, choices-inside, holds}
 use Rattle.planner.proofs.reason.first_choice.Goals as goal
 
-pub loop-i-init : goal.loop-i-init
-unfolding choice_tests_inside
-loop-i-init c =
-    let given = c.args in
-    search-start-at (λ depth. choice_tests_at given.rows.now) given.number 0 refl c.end_at-i-end.ensures
-
-pub returns-then-holds_loop : goal.returns-then-holds_loop
-returns-then-holds_loop c =
-    search-found c.loop-i.invariant c.loop-i-test.true
-    (choice-fails c.args.rows.now c.loop-i.i c.holds_loop.ensures c.if-holds_loop.true c.place_at.ensures)
-
-pub loop-i-preserved : goal.loop-i-preserved
-loop-i-preserved c =
-    search-next c.loop-i.invariant c.loop-i-test.true
-    (choice-passes c.args.rows.now c.loop-i.i c.holds_loop.ensures c.if-holds_loop.false)
-
 pub returns : goal.returns
-returns c = search-done c.loop-i.invariant c.loop-i-test.false
+returns c =
+    let rows = c.args.rows.now in
+    choice-read rows c.find.result c.map.result c.map.ensures.cases (λ i r h. search (rules, tests))
+    ∙ ap (choice_found rows) (found_as c.find.result
+    ∙ find_from_yields_List (holds rows) _ _ c.find.result c.find.ensures.ran (YieldsList-from_range _ _ _ refl refl) (λ x b q k. search (rules, tests)))
+    ∙ choices-inside rows c.args.number c.end_at.ensures

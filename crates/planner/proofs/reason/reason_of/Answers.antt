@@ -1,24 +1,16 @@
 -- The first choice that fails, or else what is found of the loops: the first test that fails of both, one after the other.
-use mathlib.Core.Path.{ap, sym, ◌∙◌}
-use Rattle.reasons.specs.View.{found_in}
-use Rattle.planner.proofs.Searching.{reason-choice, reason-loop}
+use mathlib.Core.Path.{◌∙◌}
+use borrow.Author.Rules.{rules}
+use borrow.Author.Tests.{tests}
+use Rattle.planner.proofs.Searching.{reason-read}
 use Rattle.planner.proofs.ReasonRead.{reason-among}
 use Rattle.planner.proofs.reason.reason_of.Goals as goal
 
-pub returns-in-Some : goal.returns-in-Some
-returns-in-Some c =
+pub returns-clause-found : goal.returns-clause-found
+returns-clause-found c =
     let arrays = c.args.arrays.now in
-    let found = reason-choice arrays.rows arrays.differences arrays.facts c.args.number (sym (ap found_in c.in-Some.is) ∙ c.first_choice.ensures) in
-    record {
-      found = found;
-      reason = λ sheet parameters xs l ys among. found ∙ reason-among among;
-    }
+    reason-read arrays.rows arrays.differences arrays.facts c.args.number c.first_choice.result c.or_else.result c.first_choice.ensures c.or_else.ensures
+    (λ h. search (rules, tests))
 
-pub returns-in-None : goal.returns-in-None
-returns-in-None c =
-    let arrays = c.args.arrays.now in
-    let found = reason-loop arrays.rows arrays.differences arrays.facts c.args.number (sym (ap found_in c.in-None.is) ∙ c.first_choice.ensures) c.first_loop.ensures in
-    record {
-      found = found;
-      reason = λ sheet parameters xs l ys among. found ∙ reason-among among;
-    }
+pub returns-clause-reason : goal.returns-clause-reason
+returns-clause-reason c sheet parameters xs l ys among = returns-clause-found c ∙ reason-among among
