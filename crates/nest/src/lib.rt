@@ -3,11 +3,12 @@
 
 ghost use Rattle.std.specs.Prelude.{◌≡◌, List, ℕ, ◌+◌, ◌^◌, ◌<◌, length, get_or, drop};
 ghost use Rattle.meaning.specs.Record.{end_record};
+ghost use Rattle.records.specs.View.{meant};
 ghost use Rattle.layout.specs.Numbers.{stored_in};
 ghost use Rattle.sheet.specs.Sheets.{records_of};
 ghost use Rattle.nest.specs.Rows.{Position, row_at, rows_stored};
 ghost use Rattle.nest.specs.Known.{RecordAt, RecordBefore, AtPosition};
-ghost use Rattle.nest.specs.Roles.{role_of_byte, cost_in, skip_cost_in, opens, open_after_role, end_of_role, loops_after_role, enclosing_after_role};
+ghost use Rattle.nest.specs.Roles.{role_by, cost_by, skip_cost_by, opens, open_after_role, end_of_role, loops_after_role, enclosing_after_role};
 
 use encoding::number::{byte_at, unsigned16_at};
 use layout::narrow;
@@ -18,11 +19,11 @@ use sheet::head::body_at;
 use sheet::nesting::Nesting;
 
 // The role of a kind's records; what is no kind counts as straight.
-#[tactic(auto, unfolding(crate::specs::Roles::role_of_byte, crate::specs::Roles::role_by, layout::specs::Rows::role_of_kind))]
-fn role_of(kind: u8) -> Role
-    ensures { result ≡ role_of_byte kind }
+#[tactic(auto, unfolding(crate::specs::Roles::role_by, layout::specs::Rows::role_of_kind))]
+fn role_of(kind: Option<Kind>) -> Role
+    ensures { result ≡ role_by (meant kind) }
 {
-    match Kind::of(kind) {
+    match kind {
         Some(Kind::Loop | Kind::SkipLoop) => Role::Loop,
         Some(Kind::End) => Role::End,
         Some(Kind::Choice) => Role::Choice,
@@ -32,22 +33,22 @@ fn role_of(kind: u8) -> Role
 }
 
 // The cost at an offset of a record's body; only works and loops have costs.
-#[tactic(auto, unfolding(crate::specs::Roles::cost_in, crate::specs::Roles::cost_by))]
-fn cost(kind: u8, body: &[u8], at: usize) -> u16
-    ensures { result ≡ cost_in kind body.now at }
+#[tactic(auto, unfolding(crate::specs::Roles::cost_by))]
+fn cost(kind: Option<Kind>, body: &[u8], at: usize) -> u16
+    ensures { result ≡ cost_by (meant kind) body.now at }
 {
-    match Kind::of(kind) {
+    match kind {
         Some(Kind::Work | Kind::Loop | Kind::SkipLoop) => unsigned16_at(body, at),
         Some(Kind::End | Kind::Choice | Kind::NextArm) | None => 0,
     }
 }
 
 // What a loop costs where it makes no trip; 0 of another record.
-#[tactic(auto, unfolding(crate::specs::Roles::skip_cost_in, crate::specs::Roles::skip_cost_by))]
-fn skip_cost(kind: u8, body: &[u8]) -> u16
-    ensures { result ≡ skip_cost_in kind body.now }
+#[tactic(auto, unfolding(crate::specs::Roles::skip_cost_by))]
+fn skip_cost(kind: Option<Kind>, body: &[u8]) -> u16
+    ensures { result ≡ skip_cost_by (meant kind) body.now }
 {
-    match Kind::of(kind) {
+    match kind {
         Some(Kind::Loop) => Loop::skip_cycles(body, false),
         Some(Kind::SkipLoop) => Loop::skip_cycles(body, true),
         Some(Kind::Work | Kind::End | Kind::Choice | Kind::NextArm) | None => 0,
@@ -86,7 +87,7 @@ fn end_of(sheet: &[u8], count: usize, number: usize, next: usize, role: Role) ->
     let mut here = next;
     for i in number + 1..count {
         let kind = byte_at(sheet, here);
-        opened = open_after(role_of(kind), opened);
+        opened = open_after(role_of(Kind::of(kind)), opened);
         if opened == 0 {
             return i;
         }
@@ -108,7 +109,7 @@ fn row_of(
     requires { RecordAt sheet.now count number at }
     ensures { (p : Position) → AtPosition p number at loops enclosing here → result ≡ row_at p (get_or (records_of sheet.now) number end_record) (drop (number + 1) (records_of sheet.now)) }
 {
-    let kind = byte_at(sheet, at);
+    let kind = Kind::of(byte_at(sheet, at));
     let body = body_at(sheet, at);
     let first = cost(kind, body, 0);
     let second = cost(kind, body, 2);
@@ -151,7 +152,7 @@ fn loops_after(role: Role, loops: u16) -> u16
 {
     match role {
         Role::Loop => loops + 1,
-        _ => loops,
+        Role::Straight | Role::End | Role::Choice | Role::NextArm | Role::Unknown => loops,
     }
 }
 
@@ -166,7 +167,7 @@ pub fn lay_rows(sheet: &[u8], count: usize, rows: &mut Rows)
     let mut here = Nesting::nothing();
     for number in 0..count {
         let kind = byte_at(sheet, at);
-        let role = role_of(kind);
+        let role = role_of(Kind::of(kind));
         let row = row_of(sheet, count, number, at, loops, enclosing, here);
         put_row(rows, number, row);
         enclosing = enclosing_after(rows, role, number, enclosing);

@@ -1,6 +1,8 @@
 -- The invariant: the rows of the records before `number` are stored, and the numbers carried are those of its position.
 use native.Mathlib.Omega.{arith}
 use Prim.Native.Nat.{◌+◌, ◌^◌, ◌<◌}
+use mathlib.Core.Path.{ap, ◌∙◌}
+use Rattle.nest.specs.Roles.{role_by, role_of_byte}
 use Rattle.nest.proofs.RowWalk.{laying-start, laying-done, laying-at, laying-next}
 use Rattle.sheet.proofs.SheetRecords.{few-records}
 use Rattle.nest.proofs.Endings.{present, next-by-kind, next-inside}
@@ -31,9 +33,10 @@ pub overflow_add-at-in-loop-number : goal.overflow_add-at-in-loop-number
 overflow_add-at-in-loop-number c = record { fits = omega (arith, next_fits c) }
 
 pub loop-number-preserved : goal.loop-number-preserved
+unfolding role_of_byte
 loop-number-preserved c =
     let row = c.row_of-row.ensures _ c.loop-number.invariant.position in
-    laying-next c.loop-number.invariant c.loop-number-test.true row c.put_row.ensures c.byte_at-kind.ensures c.role_of-role.ensures
+    laying-next c.loop-number.invariant c.loop-number-test.true row c.put_row.ensures c.byte_at-kind.ensures (c.role_of-role.ensures ∙ ap role_by c.of.ensures)
     c.enclosing_after-enclosing.ensures c.loops_after-loops.ensures c.after-here.ensures.«open» c.body_length.ensures
 
 pub returns : goal.returns

@@ -1,6 +1,9 @@
 -- Each number of the row is read of the record that stands at `at`, or carried there; a row has the last 16 bits of what is wider.
 use mathlib.Core.Path.{ap, ◌∙◌}
 use Prim.Native.Nat.{ℕ, ◌%◌, ◌^◌}
+use mathlib.Core.Option.{Option}
+use Rattle.meaning.specs.Record.{Kind}
+use Rattle.nest.specs.Roles.{role_by, role_of_byte, cost_by, cost_in, skip_cost_by, skip_cost_in}
 use Rattle.nest.proofs.Endings.{next-by-body, next-inside}
 use Rattle.nest.proofs.RowWalk.{row_is}
 use native.Mathlib.Omega.{arith}
@@ -17,8 +20,12 @@ end_of-end-requires c =
     record { all = known.all; there = known.there; offset = next-by-body known c.body_at-body.ensures }
 
 pub returns : goal.returns
+unfolding role_of_byte cost_in skip_cost_in
 returns c =
+    let body = c.body_at-body.result.now in
+    let kind = c.of-kind.ensures in
     let end = c.narrow.ensures ∙ ap (λ (n : ℕ). n % 2 ^ 16) c.end_of-end.ensures in
-    row_is c.requires c.byte_at-kind.ensures c.body_at-body.ensures c.role_of-role.ensures c.number.ensures
-    c.cost-first.ensures c.cost-second.ensures c.skip_cost-skip.ensures end c.narrow-2.ensures c.narrow-3.ensures
+    row_is c.requires c.byte_at.ensures c.body_at-body.ensures (c.role_of-role.ensures ∙ ap role_by kind) c.number.ensures
+    (c.cost-first.ensures ∙ ap (λ (k : Option Kind). cost_by k body 0) kind) (c.cost-second.ensures ∙ ap (λ (k : Option Kind). cost_by k body 2) kind)
+    (c.skip_cost-skip.ensures ∙ ap (λ (k : Option Kind). skip_cost_by k body) kind) end c.narrow-2.ensures c.narrow-3.ensures
     c.narrow-4.ensures
