@@ -1,5 +1,4 @@
 pub mod Counting
-pub mod Allowing
 pub mod Padding
 pub mod OneValue
 pub mod Filling

@@ -9,10 +9,9 @@ use Rattle.ranges.specs.Extremes.{leasts_of, mosts_of}
 use Rattle.sweep.specs.Overs.{blank, padded, visits_over}
 
 -- before the first value of a range that is not refused 11, at a budget that is not refused 7
-pub record Begun (budget : ℕ) (range : ParameterRange) (count : ℕ) (leasts mosts : List ℕ) : Type 0 where
+pub record Begun (budget : ℕ) (range : ParameterRange) (leasts mosts : List ℕ) : Type 0 where
   pub number_in_range : (1 ≤ range.number) × (range.number ≤ parameter_factors)
-  pub counted : count ≡ value_count range
-  pub few : count ≤ value_limit
+  pub few : value_count range ≤ value_limit
   pub budget_in_range : (1 ≤ budget) × (budget ≤ budget_limit)
   pub leasts_blank : leasts ≡ blank
   pub mosts_blank : mosts ≡ blank

@@ -39,6 +39,7 @@ fn one_more(
     ensures leasts { leasts.new ≡ stored_at least_figure k leasts.old (answer sheet.now parameters (max 1 (budget - total))) }
     ensures mosts { mosts.new ≡ stored_at most_figure k mosts.old (answer sheet.now parameters (max 1 (budget - total))) }
 {
+    let over_budget = u64::from(budget) + 1;
     match cycles(sheet, parameters, budget_left(budget, total)) {
         Ok(figures) => {
             leasts[k] = figures.least;
@@ -46,7 +47,7 @@ fn one_more(
             Ok(total + figures.visits)
         }
         Err(refusal) => match refusal.kind {
-            RefusalKind::TooManyVisits => Ok(u64::from(budget) + 1),
+            RefusalKind::TooManyVisits => Ok(over_budget),
             _ => Err(refusal),
         },
     }
@@ -58,15 +59,14 @@ fn fill(
     parameters: Parameters,
     budget: u32,
     range: ParameterRange,
-    count: u32,
     leasts: &mut Cycles,
     mosts: &mut Cycles,
 ) -> Result<u64, Refusal>
-    requires { Begun budget (range_of range) count leasts.old mosts.old }
+    requires { Begun budget (range_of range) leasts.old mosts.old }
     ensures { FilledTo sheet.now parameters budget (range_of range) (refusable result) leasts.new mosts.new }
 {
     let mut total = 0;
-    for k in 0..count {
+    for k in 0..value_count(range) {
         let at = parameters_at(parameters, range, k);
         total = one_more(sheet, at, budget, total, k as usize, leasts, mosts)?;
     }
@@ -74,7 +74,7 @@ fn fill(
 }
 
 // In the order 11, 7, then 1 to 6 of the first value that has one, then 8 for the sum of the visits.
-// What is asked stays parameters of their own here and inward, since `figures_over` takes them so and its clauses name them.
+// The sheet, the parameters, the budget and the range stay one by one here and inward, since a struct would be made only for these calls, and each of them would take it apart.
 fn fill_range(
     sheet: &[u8],
     parameters: Parameters,
@@ -98,15 +98,7 @@ fn fill_range(
             offset: 0,
         });
     }
-    let total = fill(
-        sheet,
-        parameters,
-        budget,
-        range,
-        value_count(range),
-        leasts,
-        mosts,
-    )?;
+    let total = fill(sheet, parameters, budget, range, leasts, mosts)?;
     if u64::from(budget) < total {
         return Err(Refusal {
             kind: RefusalKind::TooManyVisits,

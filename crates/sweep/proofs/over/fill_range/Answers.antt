@@ -28,8 +28,7 @@ fill-requires c =
     let parts = allowed-parts (range_of c.args.range) (sym c.is_allowed.ensures ∙ c.if-not-is_allowed.false) in
     record {
       number_in_range = parts.number;
-      counted = c.value_count.ensures;
-      few = omega (arith, c.value_count.ensures, parts.count.1);
+      few = parts.count.1;
       budget_in_range = (omega (arith, c.if-budget-eq0.false), c.if-budget-gt-MAX_BUDGET.false);
       leasts_blank = c.requires.0;
       mosts_blank = c.requires.1;

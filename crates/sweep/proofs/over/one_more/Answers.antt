@@ -24,7 +24,7 @@ returns-in-TooManyVisits c =
     let a = c.args in
     let made = made-spent a.budget a.total a.k a.leasts.now a.mosts.now
     (sym (ap answer_result c.in-Err.is) ∙ c.cycles.ensures.answers ∙ ap (answer a.sheet.now a.parameters) c.budget_left.ensures)
-    (ap refusal_number c.in-TooManyVisits.is) c.from.ensures in
+    (ap refusal_number c.in-TooManyVisits.is) c.from-over_budget.ensures in
     record { visits = made.0; leasts = made.1.0; mosts = made.1.1 }
 
 pub returns-in_default : goal.returns-in_default
