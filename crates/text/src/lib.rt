@@ -41,8 +41,19 @@ pub fn blank_input() -> [u8; INPUT_LENGTH]
     [0; INPUT_LENGTH]
 }
 
-// The budget, low byte first.
-fn budget_of(input: &[u8]) -> u32
+// The four parameters of an input, which come first.
+pub fn parameters_of(input: &[u8]) -> Parameters
+    ensures { result ≡ input_parameters input.now }
+{
+    let p1 = signed16_at(input, 0);
+    let p2 = signed16_at(input, 2);
+    let p3 = signed16_at(input, 4);
+    let p4 = signed16_at(input, 6);
+    [p1, p2, p3, p4]
+}
+
+// The budget of an input, after the parameters.
+pub fn budget_of(input: &[u8]) -> u32
     ensures { result ≡ input_budget input.now }
 {
     unsigned32_at(input, 8)
@@ -82,11 +93,6 @@ pub fn program_text(input: &[u8], buffer: &mut Text) -> usize
             },
         );
     }
-    let p1 = signed16_at(input, 0);
-    let p2 = signed16_at(input, 2);
-    let p3 = signed16_at(input, 4);
-    let p4 = signed16_at(input, 6);
-    let budget = budget_of(input);
     let sheet = &input[HEADER_LENGTH..];
-    put_answer(sheet, [p1, p2, p3, p4], budget, buffer)
+    put_answer(sheet, parameters_of(input), budget_of(input), buffer)
 }

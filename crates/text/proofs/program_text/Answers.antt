@@ -3,7 +3,7 @@ use native.Mathlib.Omega.{arith}
 use Rattle.meaning.specs.Program.{refused_line, program_text}
 use Rattle.meaning.proofs.Input.{program_text-take}
 use Rattle.meaning.proofs.LongerSheets.{printed-alike}
-use Rattle.text.proofs.Inputs.{sheet-part, four-parameters}
+use Rattle.text.proofs.Inputs.{sheet-part}
 use Rattle.text.proofs.Answering.{short-text, long-text, at-start}
 use Rattle.meaning.specs.Program.{input_parameters, input_sheet}
 use Rattle.meaning.proofs.Reasons.{reasons-told}
@@ -28,9 +28,7 @@ returns c =
     let input = c.args.input.now in
     let text = at-start (program_text input) c.args.buffer.now _ c.put_answer.new.buffer c.put_answer.result (omega arith)
     (long-text input _ _ _ c.if-input-lt-HEADER_LENGTH.false (sheet-part input)
-    (four-parameters input _ _ _ _ (record { sfits = c.signed16_at-p1.type_inv }) (record { sfits = c.signed16_at-p2.type_inv }) (record { sfits = c.signed16_at-p3.type_inv })
-    (record { sfits = c.signed16_at-p4.type_inv }) c.signed16_at-p1.ensures c.signed16_at-p2.ensures c.signed16_at-p3.ensures c.signed16_at-p4.ensures)
-    c.budget_of-budget.ensures) c.put_answer.ensures in
+    c.parameters_of.ensures c.budget_of.ensures) c.put_answer.ensures in
     record {
       length = text.0;
       bytes = text.1.0;
