@@ -55,23 +55,32 @@ module _ (sheet : List ℕ) (ps : List ℤ) (budget : ℕ) (area : List ℕ) whe
   Promised number after = (number ≡ (c_call sheet ps budget area).number) × ((after ≡ (c_call sheet ps budget area).area) × (Stored sheet ps number after
       × (UnlessTooLong sheet (answer sheet ps budget ≡ answer_by short_read sheet ps budget) × OnlyVisitsFall (earlier_answer sheet ps budget) (answer sheet ps budget))))
 
-  promised : SmallParameters ps → (c : Called) → c_call sheet ps budget area ≡ c → Promised c.number c.area
-  promised small c e =
-      let demand = subst (λ (x : Called). Stored sheet ps x.number x.area) e (stored small) in
-      (sym (ap (λ (x : Called). x.number) e), (sym (ap (λ (x : Called). x.area) e), (demand, (answered-alike sheet ps budget (answer sheet ps budget) refl, answer-falls sheet ps budget))))
+  -- the number and the area alone
+  abbrev pub Left : ℕ → List ℕ → Type 0
+  Left number after = (number ≡ (c_call sheet ps budget area).number) × (after ≡ (c_call sheet ps budget area).area)
+
+  -- all promises follow from these two
+  pub promised : SmallParameters ps → {number : ℕ} {after : List ℕ} → Left number after → Promised number after
+  promised small l =
+      let same : c_call sheet ps budget area ≡ record { number = _; area = _ } = λ t. record { number = sym l.0 t; area = sym l.1 t } in
+      let demand = subst (λ (x : Called). Stored sheet ps x.number x.area) same (stored small) in
+      (l.0, (l.1, (demand, (answered-alike sheet ps budget (answer sheet ps budget) refl, answer-falls sheet ps budget))))
+
+  left : (c : Called) → c_call sheet ps budget area ≡ c → Left c.number c.area
+  left c e = (sym (ap (λ (x : Called). x.number) e), sym (ap (λ (x : Called). x.area) e))
 
   -- refusal 9
-  pub promised-short : SmallParameters ps → length area < area_length → Promised 9 area
-  promised-short small h = promised small (record { number = 9; area = area }) (short-area h)
+  pub left-short : length area < area_length → Left 9 area
+  left-short h = left (record { number = 9; area = area }) (short-area h)
 
   -- a refusal of the library call
-  pub promised-refused : SmallParameters ps → (number place : ℕ) → area_length ≤ length area → refused number place ≡ answer sheet ps budget → Promised number area
+  pub left-refused : (number place : ℕ) → area_length ≤ length area → refused number place ≡ answer sheet ps budget → Left number area
   unfolding store_answer
-  promised-refused small number place h e = promised small (record { number = number; area = area }) (long-area (refused number place) h e)
+  left-refused number place h e = left (record { number = number; area = area }) (long-area (refused number place) h e)
 
   -- figures
-  pub promised-figures : SmallParameters ps → (f : Figures) (after : List ℕ) → area_length ≤ length area → ok f ≡ answer sheet ps budget →
-      after ≡ area_bytes f ++ drop area_length area → Promised 0 after
+  pub left-figures : (f : Figures) (after : List ℕ) → area_length ≤ length area → ok f ≡ answer sheet ps budget →
+      after ≡ area_bytes f ++ drop area_length area → Left 0 after
   unfolding store_answer
-  promised-figures small f after h e written =
-      promised small (record { number = 0; area = after }) (long-area (ok f) h e ∙ (λ t. record { number = 0; area = sym written t }))
+  left-figures f after h e written =
+      left (record { number = 0; area = after }) (long-area (ok f) h e ∙ (λ t. record { number = 0; area = sym written t }))

@@ -1,8 +1,10 @@
 // The calls that crate exports_c exports to C.
-// Numbers for refusals, and parameters one by one, stay since C's header has them so.
+// Numbers for refusals, and parameters one by one, stay since `include/pumdalin.h` has them so.
 #![tactic(auto)]
 
 mod area;
+mod lent_figures;
+mod lent_range;
 mod lent_sheet;
 mod lent_text;
 
@@ -22,15 +24,26 @@ ghost use Rattle.meaning.specs.Lent.{lent_in};
 ghost use Rattle.ranges.specs.ParameterRange.{parameter_range};
 ghost use Rattle.ranges.specs.RangeCall.{range_call, RangeStored};
 ghost use Rattle.exports.specs.Demand.{Stored};
+ghost use Rattle.exports.specs.Returned.{returned_of};
 
-use crate::area::{AREA_LENGTH, LENGTH_SIZE, RANGE_AREA_LENGTH, put_extremes, put_figures};
+use crate::area::LENGTH_SIZE;
+use crate::lent_figures::store_figures;
+use crate::lent_range::store_extremes;
 use crate::lent_sheet::store_sheet;
 use crate::lent_text::store_text;
-use figures::cycles;
 use sheet::refusal::RefusalKind;
-use sweep::extremes::cycles_over_range;
 use sweep::values::ParameterRange;
 use text::{TEXT_LENGTH, Text, program_text};
+
+// The number that C is told: 0, or the refusal's.
+fn returned(answer: Result<(), RefusalKind>) -> u32
+    ensures { result ≡ returned_of answer }
+{
+    match answer {
+        Ok(()) => 0,
+        Err(kind) => kind.number(),
+    }
+}
 
 // The C call: what the library call answers, in the area that the caller lends.
 pub fn pumdalin_figures(
@@ -50,16 +63,7 @@ pub fn pumdalin_figures(
     ensures fewer { OnlyVisitsFall (earlier_answer sheet.now (p1 ∷ p2 ∷ p3 ∷ p4 ∷ []) budget)
         (Library.answer sheet.now (p1 ∷ p2 ∷ p3 ∷ p4 ∷ []) budget) }
 {
-    if answer.len() < AREA_LENGTH {
-        return RefusalKind::ShortBuffer.number();
-    }
-    match cycles(sheet, [p1, p2, p3, p4], budget) {
-        Ok(figures) => {
-            put_figures(answer, figures);
-            0
-        }
-        Err(refusal) => refusal.kind.number(),
-    }
+    returned(store_figures(sheet, [p1, p2, p3, p4], budget, answer))
 }
 
 // The C call over a range of one parameter: what the library call over a range answers, in the area that the caller lends.
@@ -81,21 +85,12 @@ pub fn pumdalin_range(
         (range_call sheet.now (p1 ∷ p2 ∷ p3 ∷ p4 ∷ []) budget (parameter_range number first last) answer.old).area }
     ensures promise { RangeStored sheet.now (p1 ∷ p2 ∷ p3 ∷ p4 ∷ []) budget (parameter_range number first last) result answer.new }
 {
-    if answer.len() < RANGE_AREA_LENGTH {
-        return RefusalKind::ShortBuffer.number();
-    }
     let range = ParameterRange {
         number,
         first,
         last,
     };
-    match cycles_over_range(sheet, [p1, p2, p3, p4], budget, range) {
-        Ok(extremes) => {
-            put_extremes(answer, extremes);
-            0
-        }
-        Err(refusal) => refusal.kind.number(),
-    }
+    returned(store_extremes(sheet, [p1, p2, p3, p4], budget, range, answer))
 }
 
 // The text call: what `bound` prints for this input, in the buffer that the caller lends, and its length in the area.
@@ -108,12 +103,11 @@ pub fn pumdalin_text(input: &[u8], text: &mut [u8], answer: &mut [u8]) -> u32
     ensures before { UnlessTooLong (input_sheet input.now) (program_text input.now ≡ program_text_by short_read input.now) }
 {
     if answer.len() < LENGTH_SIZE {
-        RefusalKind::ShortBuffer.number()
-    } else {
-        let mut buffer: Text = [0; TEXT_LENGTH];
-        let length = program_text(input, &mut buffer);
-        store_text(&buffer[..length], text, answer)
+        return returned(Err(RefusalKind::ShortBuffer));
     }
+    let mut buffer: Text = [0; TEXT_LENGTH];
+    let length = program_text(input, &mut buffer);
+    returned(store_text(&buffer[..length], text, answer))
 }
 
 // The sheet with every kind 2 turned into kind 6, in the buffer that the caller lends, and its length in the area.
@@ -126,7 +120,7 @@ pub fn pumdalin_with_skips(sheet: &[u8], target: &mut [u8], answer: &mut [u8]) -
     ensures before { UnlessTooLong sheet.now
         (with_skips sheet.now target.old ≡ convert (and_then (short_read sheet.now) add_skips) target.old) }
 {
-    store_sheet(sheet, true, target, answer)
+    returned(store_sheet(sheet, true, target, answer))
 }
 
 // The sheet with every kind 6 turned into kind 2, in the buffer that the caller lends, and its length in the area.
@@ -139,5 +133,5 @@ pub fn pumdalin_without_skips(sheet: &[u8], target: &mut [u8], answer: &mut [u8]
     ensures before { UnlessTooLong sheet.now
         (without_skips sheet.now target.old ≡ convert (and_then (short_read sheet.now) (drop_skips 0)) target.old) }
 {
-    store_sheet(sheet, false, target, answer)
+    returned(store_sheet(sheet, false, target, answer))
 }

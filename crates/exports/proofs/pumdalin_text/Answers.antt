@@ -17,15 +17,15 @@ pub returns-then-answer-lt-LENGTH_SIZE : goal.returns-then-answer-lt-LENGTH_SIZE
 returns-then-answer-lt-LENGTH_SIZE c =
     let a = c.args in
     let l =
-    by-number (λ n. Promised a.input.now a.text.now a.answer.now n a.text.now a.answer.now) c.number.ensures
+    by-number (λ n. Promised a.input.now a.text.now a.answer.now n a.text.now a.answer.now) c.returned.ensures
     (promised-short a.input.now a.text.now a.answer.now c.if-answer-lt-LENGTH_SIZE.true) in
     record { number = l.0; text = l.1.0; area = l.1.1.0; reads = l.1.1.1.0; reasons = l.1.1.1.1.0; before = l.1.1.1.1.1 }
 
-pub returns-else-answer-lt-LENGTH_SIZE : goal.returns-else-answer-lt-LENGTH_SIZE
-returns-else-answer-lt-LENGTH_SIZE c =
+pub returns : goal.returns
+returns c =
     let a = c.args in
     let p = c.program_text-length.ensures in
     let same = (λ i. take (p.length i) (p.bytes i)) ∙ take-append_seam (program_text a.input.now) _ in
     let l =
-    promised-stored a.input.now a.text.now a.answer.now c.if-answer-lt-LENGTH_SIZE.false same (omega arith) (c.store_text.ensures.number, (c.store_text.ensures.text, c.store_text.ensures.area)) in
+    promised-stored a.input.now a.text.now a.answer.now c.if-answer-lt-LENGTH_SIZE.false same (omega arith) (c.returned-2.ensures ∙ c.store_text.ensures.number, (c.store_text.ensures.text, c.store_text.ensures.area)) in
     record { number = l.0; text = l.1.0; area = l.1.1.0; reads = l.1.1.1.0; reasons = l.1.1.1.1.0; before = l.1.1.1.1.1 }

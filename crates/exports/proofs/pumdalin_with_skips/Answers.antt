@@ -1,4 +1,5 @@
 -- What storing the converted sheet leaves, and what is promised of the converter and its call.
+use mathlib.Core.Path.{◌∙◌}
 use mathlib.Core.Bool.{true}
 use Rattle.meaning.specs.Converter.{records_with_skips, with_skips, without_skips}
 use Rattle.meaning.specs.ConverterCall.{with_skips_call}
@@ -17,7 +18,7 @@ returns c =
     let bytes = bytes-all a.sheet.now (λ i. (c.type_inv.sheet i).fits) in
     let p = promised (records_with_skips a.sheet.now) true without_skips a.sheet.now a.target.now a.answer.now
     (with-skips-call a.sheet.now a.target.now a.answer.now) (λ n e. with-skips-turned a.sheet.now a.target.now n bytes e)
-    (c.store_sheet.ensures.number, (c.store_sheet.ensures.sheet, c.store_sheet.ensures.area)) in
+    (c.returned.ensures ∙ c.store_sheet.ensures.number, (c.store_sheet.ensures.sheet, c.store_sheet.ensures.area)) in
     record {
       number = p.0;
       sheet = p.1.0;

@@ -8,15 +8,15 @@ use Rattle.converter.proofs.Conversions.{length-fits}
 use Rattle.exports.proofs.LentSheets.{left-refused, left-area, left-short, left-sheet}
 use Rattle.exports.proofs.lent_sheet.store_sheet.Goals as goal
 
-pub returns-then-answer-lt-LENGTH_SIZE : goal.returns-then-answer-lt-LENGTH_SIZE
-returns-then-answer-lt-LENGTH_SIZE c =
+pub returns-then-room-lt-LENGTH_SIZE : goal.returns-then-room-lt-LENGTH_SIZE
+returns-then-room-lt-LENGTH_SIZE c =
     let given = c.args in
     let new = new_records given.skips given.sheet.now in
     let long = sym (ap refusable c.in-Ok.is) ∙ c.convert.ensures.answer in
     let l =
     ⊎_elim (λ h. left-area new given.buffer.now given.answer.now long h) (λ w. left-short new given.buffer.now given.answer.now long w.0 w.1)
-    c.then-answer-lt-LENGTH_SIZE.either in
-    record { number = c.number.ensures ∙ l.0; sheet = l.1.0; area = l.1.1 }
+    c.then-room-lt-LENGTH_SIZE.either in
+    record { number = l.0; sheet = l.1.0; area = l.1.1 }
 
 pub slice_bounds-target-end : goal.slice_bounds-target-end
 slice_bounds-target-end c =
@@ -34,7 +34,7 @@ returns-else-buffer-length c =
     let new = new_records given.skips given.sheet.now in
     let long = sym (ap refusable c.in-Ok.is) ∙ c.convert.ensures.answer in
     let l =
-    left-sheet new given.buffer.now given.answer.now long c.if-answer-lt-LENGTH_SIZE.false c.if-buffer-length.false _ c.convert.ensures.laid
+    left-sheet new given.buffer.now given.answer.now long c.if-room-lt-LENGTH_SIZE.false c.if-buffer-length.false _ c.convert.ensures.laid
     c.put.ensures c.put_length.ensures in
     record { number = l.0; sheet = l.1.0; area = l.1.1 }
 
@@ -43,4 +43,4 @@ returns-in-Err c =
     let given = c.args in
     let new = new_records given.skips given.sheet.now in
     let l = left-refused new given.buffer.now given.answer.now (sym (ap refusable c.in-Err.is) ∙ c.convert.ensures.answer) in
-    record { number = c.number-in-Err.ensures ∙ l.0; sheet = l.1.0; area = l.1.1 }
+    record { number = l.0; sheet = l.1.0; area = l.1.1 }
