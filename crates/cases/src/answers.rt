@@ -1,28 +1,9 @@
-// Whether an answer, and what a call left in the buffers that it was lent, are as stored.
-ghost use Rattle.std.specs.Prelude.{◌≡◌, ◌↔◌, ◌&&◌, ◌==◌, ◌++◌, IsTrue, IfOk, IfErr, All, length, drop};
-ghost use Rattle.sheet.specs.Refusals.{refusal_number};
+// What a call left in the buffers that it was lent.
+ghost use Rattle.std.specs.Prelude.{◌≡◌, ◌≢◌, ◌↔◌, ◌++◌, [], IsTrue, All, length, drop};
 ghost use Rattle.cases.specs.declared.answers.TheConstants.{FILL};
-
-use crate::headers::Case;
-use sheet::refusal::Refusal;
 
 // What each buffer that is lent is filled with before the call.
 pub const FILL: u8 = 167;
-
-impl Case {
-    // Whether the answer is the refusal that the case stores, or the given one where it stores none.
-    pub fn has_answer<T: PartialEq + Copy>(self, answer: Result<T, Refusal>, stored: T) -> bool
-        ensures given { IfOk answer (λ value. result ≡ (self.number == 0 && T.eq value stored)) }
-        ensures refused { IfErr answer (λ refusal. result ≡ (refusal_number refusal.kind == self.number && refusal.offset == self.value)) }
-    {
-        match answer {
-            Ok(value) => self.number == 0 && value == stored,
-            Err(refusal) => {
-                refusal.kind.number() == u32::from(self.number) && refusal.offset == self.value
-            }
-        }
-    }
-}
 
 // Whether every byte is as it was filled.
 fn is_filled(buffer: &[u8]) -> bool
@@ -37,4 +18,12 @@ pub fn holds(buffer: &[u8], bytes: &[u8]) -> bool
         × All (λ byte. byte ≡ FILL) (drop (length bytes.now) buffer.now)) }
 {
     buffer.starts_with(bytes) && is_filled(&buffer[bytes.len()..])
+}
+
+// What a C call that returned this number has to leave: the bytes, or none of them where it refused.
+pub fn left_after(returned: u32, bytes: &[u8]) -> &[u8]
+    ensures answered { returned ≡ 0 → result.now ≡ bytes.now }
+    ensures refused { returned ≢ 0 → result.now ≡ [] }
+{
+    if returned == 0 { bytes } else { &[] }
 }

@@ -5,7 +5,8 @@ ghost use Rattle.std.specs.Io.KnownBytes.{Consumes};
 use std::io;
 use std::io::{ErrorKind, Read};
 
-// So many bytes of the file, put at the start of the space; none where the file or the space ends before.
+// So many bytes of the file, put at the start of the space; none where the file or the space ends before. The clauses say nothing of none: that
+// the file ends before cannot be told, since `read_exact` promises only what an `Ok` of it means.
 pub fn next_bytes<'a, F: Read>(
     file: &mut F,
     space: &'a mut [u8],

@@ -1,9 +1,8 @@
-// Numbers in what follows a case's sheet.
+// What the bytes after a case's sheet begin with.
 ghost use Rattle.std.specs.Prelude.{◌≡◌};
-ghost use Rattle.meaning.specs.Program.{input_parameters};
+ghost use Rattle.meaning.specs.Program.{input_budget, input_parameters};
 
-use encoding::number::signed16_at;
-pub use encoding::number::unsigned64_at;
+use encoding::number::{signed16_at, unsigned32_at};
 use form::Parameters;
 
 // How many bytes the four parameters take, which come first.
@@ -17,4 +16,11 @@ pub fn parameters_in(given: &[u8]) -> Parameters
     let p3 = signed16_at(given, 4);
     let p4 = signed16_at(given, 6);
     [p1, p2, p3, p4]
+}
+
+// The budget, which comes after the parameters.
+pub fn budget_in(given: &[u8]) -> u32
+    ensures { result ≡ input_budget given.now }
+{
+    unsigned32_at(given, PARAMETERS)
 }

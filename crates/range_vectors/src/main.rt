@@ -5,14 +5,10 @@ mod range_calls;
 
 use crate::range_calls::{RANGE, range_agrees};
 use cases::calls::Call;
-use cases::files::next_bytes;
-use cases::headers::Case;
+use cases::headers::{Case, MOST_CASES, MOST_SHEET};
 use std::fs::File;
 use std::io;
 use std::io::Read;
-
-// The file has no more cases.
-const MOST_CASES: usize = 1000000;
 
 // Cases met so far, and how many of them came out otherwise than reckoned.
 #[derive(Default, Drop)]
@@ -33,22 +29,17 @@ impl Tally {
     }
 }
 
-// Whether the case comes out as reckoned; nothing where the file ends within it.
+// Whether the case comes out as reckoned; nothing where the file ends within what follows its header.
 fn run_case<F: Read>(file: &mut F, case: Case) -> io::Result<Option<bool>> {
-    let mut sheet = [0; 4096];
-    let mut own = [0; RANGE];
-    let Some(sheet) = next_bytes(file, &mut sheet, case.sheet)? else {
-        return Ok(None);
-    };
-    let Some(own) = next_bytes(file, &mut own, RANGE)? else {
-        return Ok(None);
-    };
+    let mut space = [0; MOST_SHEET + RANGE];
+    let body = case.body(file, &mut space, RANGE)?;
     let is_range = case.call == Some(Call::Range);
-    Ok(Some(is_range && range_agrees(case, sheet, own)))
+    Ok(body.map(|(sheet, own)| is_range && range_agrees(case, sheet, own)))
 }
 
-// Every case of the file; the last differs where the file ends within it. Stays beside the same loop of `vectors`, since each counts into a
-// tally of its own, and one loop for both would be a library's function with nothing to promise.
+// Every case of the file; the last differs where the file ends within what follows its header.
+// Stays beside the same loop of `vectors`, since a loop of `cases` that calls a closure at each case would be no plainer
+// and could promise nothing: of none `Case::read` says nothing, so that each clause on that loop would hold of one that runs no case.
 fn run_all<F: Read>(file: &mut F, tally: &mut Tally) -> io::Result<()> {
     for _ in 0..MOST_CASES {
         let Some(case) = Case::read(file)? else {

@@ -1,8 +1,8 @@
 // Whether the library call and the C call over a range answer as reckoned.
-use cases::answers::{FILL, holds};
+use cases::answers::{FILL, holds, left_after};
 use cases::headers::Case;
-use cases::numbers::{parameters_in, unsigned64_at};
-use encoding::number::{signed16_at, unsigned32_at};
+use cases::numbers::{budget_in, parameters_in};
+use encoding::number::{signed16_at, unsigned32_at, unsigned64_at};
 use exports::pumdalin_range;
 use sweep::extremes::{Extreme, Extremes, cycles_over_range};
 use sweep::values::ParameterRange;
@@ -12,12 +12,11 @@ const GIVEN: usize = 20;
 
 const AREA: usize = 40;
 
+// The longest area that is lent.
+const LENT: usize = 80;
+
 // How many bytes follow the sheet: what is given, the C call's number and its area.
 pub(crate) const RANGE: usize = GIVEN + 1 + AREA;
-
-fn budget_in(given: &[u8]) -> u32 {
-    unsigned32_at(given, 8)
-}
 
 fn range_in(given: &[u8]) -> ParameterRange {
     ParameterRange {
@@ -54,7 +53,7 @@ fn library_agrees(case: Case, sheet: &[u8], given: &[u8], stored: &[u8]) -> bool
 
 // What follows the 40th byte has to stay, and every byte where the call refuses.
 fn c_agrees(case: Case, sheet: &[u8], given: &[u8], number: u8, stored: &[u8]) -> bool {
-    let mut area = [FILL; 80];
+    let mut area = [FILL; LENT];
     let Some(answer) = area.get_mut(..case.count) else {
         return false;
     };
@@ -73,8 +72,7 @@ fn c_agrees(case: Case, sheet: &[u8], given: &[u8], number: u8, stored: &[u8]) -
         range.last,
         answer,
     );
-    let stored = if returned == 0 { stored } else { &[] };
-    returned == u32::from(number) && holds(&area, stored)
+    returned == u32::from(number) && holds(&area, left_after(returned, stored))
 }
 
 pub(crate) fn range_agrees(case: Case, sheet: &[u8], own: &[u8]) -> bool {

@@ -1,8 +1,8 @@
 // Whether the library call and the C call answer as reckoned.
-use cases::answers::{FILL, holds};
+use cases::answers::{FILL, holds, left_after};
 use cases::headers::Case;
-use cases::numbers::{parameters_in, unsigned64_at};
-use encoding::number::unsigned32_at;
+use cases::numbers::{budget_in, parameters_in};
+use encoding::number::unsigned64_at;
 use exports::pumdalin_figures;
 use figures::{Figures, cycles};
 
@@ -11,12 +11,11 @@ const GIVEN: usize = 12;
 
 const AREA: usize = 24;
 
+// How long the area is that is lent.
+const LENT: usize = 40;
+
 // How many bytes follow the sheet.
 pub(crate) const CALL: usize = GIVEN + AREA;
-
-fn budget_in(given: &[u8]) -> u32 {
-    unsigned32_at(given, 8)
-}
 
 fn library_agrees(case: Case, sheet: &[u8], given: &[u8], stored: &[u8]) -> bool {
     let figures = Figures {
@@ -30,11 +29,10 @@ fn library_agrees(case: Case, sheet: &[u8], given: &[u8], stored: &[u8]) -> bool
 
 // The area that is lent is longer than it has to be: what follows its 24th byte has to stay, and all of it where the call refuses.
 fn c_agrees(case: Case, sheet: &[u8], given: &[u8], stored: &[u8]) -> bool {
-    let mut area = [FILL; 40];
+    let mut area = [FILL; LENT];
     let [p1, p2, p3, p4] = parameters_in(given);
     let number = pumdalin_figures(sheet, p1, p2, p3, p4, budget_in(given), &mut area);
-    let stored = if number == 0 { stored } else { &[] };
-    number == u32::from(case.number) && holds(&area, stored)
+    number == u32::from(case.number) && holds(&area, left_after(number, stored))
 }
 
 pub(crate) fn calls_agree(case: Case, sheet: &[u8], own: &[u8]) -> bool {

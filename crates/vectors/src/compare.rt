@@ -13,6 +13,9 @@ use sheet::reader::read_sheet;
 use sheet::refusal::Refusal;
 use writer::write_sheet;
 
+// The longest buffer that is lent to the writer or a converter.
+const BUFFER: usize = 2048;
+
 fn reader_agrees(case: Case, sheet: &[u8], entries: &[u8]) -> bool {
     let read = read_sheet(sheet);
     case.has_answer(read.answer, case.value) && read.records == records_in(entries)
@@ -27,7 +30,7 @@ pub(crate) fn written_agrees<F: FnOnce(&mut [u8]) -> Result<usize, Refusal>>(
 ) -> bool
     requires { F.IsAlwaysCallable write }
 {
-    let mut space = [FILL; 2048];
+    let mut space = [FILL; BUFFER];
     let Some(buffer) = space.get_mut(..case.buffer) else {
         return false;
     };

@@ -29,7 +29,7 @@ pub(crate) fn entries_length(case: Case) -> usize {
     }
 }
 
-// The form in its nine bytes.
+// The form in its nine bytes. This and `record_in` stay beside `Loop::decode`, which the cases of `read_sheet` are to find a fault of.
 fn form_in(form: &[u8]) -> PackedForm {
     PackedForm {
         constant: signed16_at(form, 0),

@@ -14,16 +14,12 @@ mod texts;
 use crate::compare::agrees;
 use crate::entries::entries_length;
 use cases::calls::Call;
-use cases::files::next_bytes;
-use cases::headers::Case;
+use cases::headers::{Case, MOST_CASES, MOST_SHEET};
 use std::fs::File;
 use std::io;
 use std::io::Read;
 use std::rt::Files;
 use text::TEXT_LENGTH;
-
-// No file has more cases.
-const MOST_CASES: usize = 1000000;
 
 // Cases met so far, and how many of them came out otherwise than reckoned.
 #[derive(Default, Drop)]
@@ -41,7 +37,7 @@ struct Tally {
 
 impl Tally {
     // What counts the cases of a call. One of no call that runs here counts as one of figures, and differs.
-    fn of(&mut self, call: Option<Call>) -> &mut u64 {
+    fn met(&mut self, call: Option<Call>) -> &mut u64 {
         match call {
             Some(Call::Reader) => &mut self.readings,
             Some(Call::Writer) => &mut self.writings,
@@ -56,7 +52,7 @@ impl Tally {
 
     // One case more.
     fn count(&mut self, call: Option<Call>, agrees: bool) {
-        let met = self.of(call);
+        let met = self.met(call);
         *met = met.wrapping_add(1);
         if !agrees {
             self.differing = self.differing.wrapping_add(1);
@@ -64,20 +60,17 @@ impl Tally {
     }
 }
 
-// Whether the case comes out as reckoned; nothing where the file ends within it. What follows a sheet has the room of the longest text.
+// Whether the case comes out as reckoned; nothing where the file ends within what follows its header. What follows a sheet has the room of
+// the longest text.
 fn run_case<F: Read>(file: &mut F, case: Case) -> io::Result<Option<bool>> {
-    let mut sheet = [0; 4096];
-    let mut entries = [0; TEXT_LENGTH];
-    let Some(sheet) = next_bytes(file, &mut sheet, case.sheet)? else {
-        return Ok(None);
-    };
-    let Some(own) = next_bytes(file, &mut entries, entries_length(case))? else {
-        return Ok(None);
-    };
-    Ok(Some(agrees(case, sheet, own)))
+    let mut space = [0; MOST_SHEET + TEXT_LENGTH];
+    let body = case.body(file, &mut space, entries_length(case))?;
+    Ok(body.map(|(sheet, own)| agrees(case, sheet, own)))
 }
 
-// Every case of the file; the last differs where the file ends within it.
+// Every case of the file; the last differs where the file ends within what follows its header.
+// Stays beside the same loop of `range_vectors`, since a loop of `cases` that calls a closure at each case would be no plainer
+// and could promise nothing: of none `Case::read` says nothing, so that each clause on that loop would hold of one that runs no case.
 fn run_all<F: Read>(file: &mut F, tally: &mut Tally) -> io::Result<()> {
     for _ in 0..MOST_CASES {
         let Some(case) = Case::read(file)? else {
@@ -90,10 +83,6 @@ fn run_all<F: Read>(file: &mut F, tally: &mut Tally) -> io::Result<()> {
         }
     }
     Ok(())
-}
-
-fn print_line(rt: &impl Print, text: &str, number: u64) -> io::Result<()> {
-    println!(rt; "{text}{number}")
 }
 
 // The cases of a file; one that cannot be opened differs.
@@ -122,13 +111,18 @@ fn main(rt: HostRuntime) -> io::Result<()> {
     ] {
         run_file(&rt, path, &mut tally)?;
     }
-    print_line(&rt, "sheets read: ", tally.readings)?;
-    print_line(&rt, "sheets written: ", tally.writings)?;
-    print_line(&rt, "plans made: ", tally.plans)?;
-    print_line(&rt, "figures answered: ", tally.figures)?;
-    print_line(&rt, "sheets gone through stage by stage: ", tally.stagings)?;
-    print_line(&rt, "texts stored: ", tally.texts)?;
-    print_line(&rt, "lines read back: ", tally.lines)?;
-    print_line(&rt, "sheets converted: ", tally.conversions)?;
-    print_line(&rt, "otherwise than reckoned: ", tally.differing)
+    for (counted, number) in [
+        ("sheets read", tally.readings),
+        ("sheets written", tally.writings),
+        ("plans made", tally.plans),
+        ("figures answered", tally.figures),
+        ("sheets gone through stage by stage", tally.stagings),
+        ("texts stored", tally.texts),
+        ("lines read back", tally.lines),
+        ("sheets converted", tally.conversions),
+        ("otherwise than reckoned", tally.differing),
+    ] {
+        println!(&rt; "{counted}: {number}")?;
+    }
+    Ok(())
 }

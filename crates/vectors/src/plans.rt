@@ -1,5 +1,5 @@
 // Whether the plan of a sheet has the loops' lines, or the refusal, as reckoned.
-use crate::lines::stored_reason;
+use crate::lines::stored;
 use cases::headers::Case;
 use cases::numbers::{PARAMETERS, parameters_in};
 use encoding::number::unsigned16_at;
@@ -11,31 +11,40 @@ use records::MAX_RECORDS;
 // How many bytes a loop's line takes: its offset, closed, walked or ranked, its ceiling, and why it is not closed.
 pub(crate) const LINE: usize = 10;
 
-// The class that a stored line has a number for.
-fn stored_class(number: u8) -> Option<Class> {
-    match number {
-        0 => Some(Class::Walked),
-        1 => Some(Class::Closed),
-        2 => Some(Class::Ranked),
-        _ => None,
+// A loop's offset, the number of its class, its ceiling, and how its reason is stored.
+type LoopLine = (u64, u8, u64, (u8, u16, u16));
+
+fn class_number(class: Class) -> u8 {
+    match class {
+        Class::Walked => 0,
+        Class::Closed => 1,
+        Class::Ranked => 2,
     }
 }
 
-fn stored_report(line: &[u8; LINE]) -> Option<LoopReport> {
-    let reason = stored_reason(line[5], unsigned16_at(line, 6), unsigned16_at(line, 8));
-    Some(LoopReport {
-        offset: u64::from(unsigned16_at(line, 0)),
-        class: stored_class(line[2])?,
-        ceiling: u64::from(unsigned16_at(line, 3)),
-        reason: reason?,
-    })
+fn line_of(report: LoopReport) -> LoopLine {
+    (
+        report.offset,
+        class_number(report.class),
+        report.ceiling,
+        stored(report.reason),
+    )
+}
+
+fn line_in(line: &[u8; LINE]) -> LoopLine {
+    (
+        u64::from(unsigned16_at(line, 0)),
+        line[2],
+        u64::from(unsigned16_at(line, 3)),
+        (line[5], unsigned16_at(line, 6), unsigned16_at(line, 8)),
+    )
 }
 
 // Whether the plan's loops have just these lines.
 fn same_lines(arrays: &PlanArrays, lines: &[u8]) -> bool {
     let (lines, rest) = lines.as_chunks::<LINE>();
     let reports = (0..MAX_RECORDS).filter_map(|number| report_of(arrays, number));
-    rest.is_empty() && reports.map(Some).eq(lines.iter().map(stored_report))
+    rest.is_empty() && reports.map(line_of).eq(lines.iter().map(line_in))
 }
 
 pub(crate) fn plan_agrees(case: Case, sheet: &[u8], given: &[u8]) -> bool {

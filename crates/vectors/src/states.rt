@@ -1,7 +1,7 @@
 // Whether the stages of a sheet, one after another, return the states that are reckoned.
 use cases::headers::Case;
-use cases::numbers::{PARAMETERS, parameters_in, unsigned64_at};
-use encoding::number::{unsigned16_at, unsigned32_at};
+use cases::numbers::{PARAMETERS, parameters_in};
+use encoding::number::{unsigned16_at, unsigned32_at, unsigned64_at};
 use form::Parameters;
 use stages::stage;
 use state::bounds::Bounds;

@@ -1,8 +1,11 @@
 // Whether the text call, and what a C call leaves in two buffers that it is lent, are as reckoned.
-use cases::answers::{FILL, holds};
+use cases::answers::{FILL, holds, left_after};
 use cases::headers::Case;
 use exports::pumdalin_text;
 use text::TEXT_LENGTH;
+
+// The longest area that is lent.
+const AREA: usize = 32;
 
 // Whether a C call returns the number and leaves what is stored: a text or a sheet and its length at the start of the two spaces, and every
 // other byte as it was; a refusal leaves all of them.
@@ -15,7 +18,7 @@ pub(crate) fn lent_agrees<F: FnOnce(&mut [u8], &mut [u8]) -> u32>(
     requires { F.IsAlwaysCallable call }
 {
     let mut space = [FILL; TEXT_LENGTH];
-    let mut area = [FILL; 32];
+    let mut area = [FILL; AREA];
     let Some(buffer) = space.get_mut(..case.buffer) else {
         return false;
     };
@@ -23,13 +26,10 @@ pub(crate) fn lent_agrees<F: FnOnce(&mut [u8], &mut [u8]) -> u32>(
         return false;
     };
     let returned = call(buffer, answer);
-    let left = if returned == 0 {
-        let length = stored.len() as u64;
-        holds(&space, stored) && holds(&area, &length.to_le_bytes())
-    } else {
-        holds(&space, &[]) && holds(&area, &[])
-    };
-    returned == u32::from(number) && left
+    let length = (stored.len() as u64).to_le_bytes();
+    returned == u32::from(number)
+        && holds(&space, left_after(returned, stored))
+        && holds(&area, left_after(returned, &length))
 }
 
 pub(crate) fn text_agrees(case: Case, input: &[u8], text: &[u8]) -> bool {
