@@ -5,7 +5,7 @@ use mathlib.Core.Logic.{inl, inr, ◌⊎◌}
 use Prim.Native.Nat.{◌<◌, ℕ, ◌≤◌}
 use native.Mathlib.Omega.{arith}
 use native.Mathlib.Decide.{dec_le}
-use lib.ListN.{length, replicate}
+use lib.ListN.{length}
 use lib.IntN.{ℤ}
 use borrow.Author.Tests.{le-leb, lt-leb}
 use Rattle.meaning.specs.Answer.{accepted, answer, check_visits, figures_of, Figures}
@@ -14,7 +14,7 @@ use Rattle.meaning.specs.Reader.{ok, refused, require}
 use Rattle.meaning.specs.Tree.{tree}
 use Rattle.meaning.proofs.Answers.{BudgetInRange, answer-figures, answer-spent}
 use Rattle.sheet.specs.Sheets.{records_of}
-use Rattle.layout.specs.Numbers.{array_of, stored_in}
+use Rattle.layout.specs.Numbers.{array_of}
 use Rattle.layout.specs.Loops.{differences_length, facts_length, limits_length}
 use Rattle.layout.specs.Rows.{rows_length}
 use Rattle.nest.specs.Rows.{rows_stored}
@@ -43,10 +43,6 @@ use Rattle.figures.proofs.Repeats.{end_same, states-same}
 pub passed_on : (r : prelude.Result Code.Figures Refusal) (e : Refusal) → IsErrAnd r (λ y. y ≡ e) → answer_result r ≡ refused (refusal_number e.kind) e.offset
 passed_on (Ok x) e h = absurd h
 passed_on (Err y) e h = λ i. refused (refusal_number (h i).kind) (h i).offset
-
--- numbers stored in an array of zeros
-pub laid : (n : ℕ) (made : List ℕ) {before after : List ℕ} → after ≡ stored_in before made → before ≡ replicate n 0 → after ≡ array_of n made
-laid n made e f = e ∙ ap (λ (xs : List ℕ). stored_in xs made) f
 
 -- ---- refusal 8
 

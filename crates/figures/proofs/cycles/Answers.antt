@@ -8,8 +8,9 @@ use Rattle.layout.specs.Loops.{differences_length, facts_length, limits_length}
 use Rattle.meaning.proofs.LongerSheets.{answered-alike}
 use Rattle.planner.proofs.Planned.{planned-count, planned-refused}
 use Rattle.planner.proofs.Parameters.{small-parameters}
+use Rattle.stages.proofs.Planned.{in_blank}
 use Rattle.figures.specs.Demand.{Answered}
-use Rattle.figures.proofs.Answering.{stopped-answer, planned, passed_on, laid}
+use Rattle.figures.proofs.Answering.{stopped-answer, planned, passed_on}
 use Rattle.figures.proofs.Demands.{only-visits-fall, promised, answer-demand}
 use Rattle.figures.proofs.cycles.Goals as goal
 
@@ -34,10 +35,10 @@ repeat_stages-sums-requires c =
     let blank = c.blank-arrays.ensures in
     let call = c.plan.ensures in
     let count = planned-count sheet parameters c.plan.result call.answer c.in_ok-count.was in
-    let rows = laid rows_length _ call.rows blank.rows in
-    let differences = laid differences_length _ call.differences blank.differences in
-    let facts = laid facts_length _ call.facts blank.facts in
-    let limits = laid limits_length _ call.limits blank.limits in
+    let rows = in_blank rows_length _ blank.rows call.rows in
+    let differences = in_blank differences_length _ blank.differences call.differences in
+    let facts = in_blank facts_length _ blank.facts call.facts in
+    let limits = in_blank limits_length _ blank.limits call.limits in
     planned sheet parameters small count.0 count.1 rows differences facts limits count.2
 
 pub returns : goal.returns
@@ -48,10 +49,10 @@ returns c =
     let blank = c.blank-arrays.ensures in
     let call = c.plan.ensures in
     let count = planned-count sheet parameters c.plan.result call.answer c.in_ok-count.was in
-    let rows = laid rows_length _ call.rows blank.rows in
-    let differences = laid differences_length _ call.differences blank.differences in
-    let facts = laid facts_length _ call.facts blank.facts in
-    let limits = laid limits_length _ call.limits blank.limits in
+    let rows = in_blank rows_length _ blank.rows call.rows in
+    let differences = in_blank differences_length _ blank.differences call.differences in
+    let facts = in_blank facts_length _ blank.facts call.facts in
+    let limits = in_blank limits_length _ blank.limits call.limits in
     let range : BudgetInRange c.args.budget = record { positive = omega (arith, c.if-budget-eq0.false); within = c.if-budget-gt-MAX_BUDGET.false } in
     let stopped = stopped-answer sheet parameters small count.0 count.1 rows differences facts limits count.2
     c.args.budget range c.repeat_stages-sums.ensures in
