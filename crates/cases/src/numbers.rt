@@ -1,4 +1,6 @@
 // What the bytes after a case's sheet begin with.
+// `parameters_in` and `budget_in` stay beside `parameters_of` and `budget_of` of crate text, since taking those would be no plainer: for them
+// this crate, which rests on four, would rest on text and all that is below it.
 ghost use Rattle.std.specs.Prelude.{◌≡◌};
 ghost use Rattle.meaning.specs.Program.{input_budget, input_parameters};
 
