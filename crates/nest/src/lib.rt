@@ -75,7 +75,7 @@ fn open_after(role: Role, opened: usize) -> usize
     }
 }
 
-// The number of the end of a loop or choice; 0, which its row holds, of another record. The record after it stands at `next`.
+// The number of the end of a loop or choice; 0 of another record: no Option, since the row holds that 0. The record after it stands at `next`.
 fn end_of(sheet: &[u8], count: usize, number: usize, next: usize, role: Role) -> usize
     requires { RecordBefore sheet.now count number next }
     ensures { result ≡ end_of_role role number (drop (number + 1) (records_of sheet.now)) }
@@ -96,36 +96,37 @@ fn end_of(sheet: &[u8], count: usize, number: usize, next: usize, role: Role) ->
     count
 }
 
-// The row of the record with this number, which stands at `at` after so many loops, where `enclosing` and `here` are open.
-fn row_of(
-    sheet: &[u8],
-    count: usize,
-    number: usize,
+// Where a record stands: its offset, how many loops stand before it, the number of the record around it plus 1, and what is open there.
+#[derive(Clone, Copy)]
+struct Place {
     at: usize,
     loops: u16,
     enclosing: u16,
     here: Nesting,
-) -> Row
-    requires { RecordAt sheet.now count number at }
-    ensures { (p : Position) → AtPosition p number at loops enclosing here → result ≡ row_at p (get_or (records_of sheet.now) number end_record) (drop (number + 1) (records_of sheet.now)) }
+}
+
+// The row of the record with this number, which stands there.
+fn row_of(sheet: &[u8], count: usize, number: usize, place: Place) -> Row
+    requires { RecordAt sheet.now count number place.at }
+    ensures { (p : Position) → AtPosition p number place.at place.loops place.enclosing place.here → result ≡ row_at p (get_or (records_of sheet.now) number end_record) (drop (number + 1) (records_of sheet.now)) }
 {
-    let kind = Kind::of(byte_at(sheet, at));
-    let body = body_at(sheet, at);
+    let kind = Kind::of(byte_at(sheet, place.at));
+    let body = body_at(sheet, place.at);
     let first = cost(kind, body, 0);
     let second = cost(kind, body, 2);
     let skip = skip_cost(kind, body);
     let role = role_of(kind);
-    let end = end_of(sheet, count, number, at + (1 + body.len()), role);
+    let end = end_of(sheet, count, number, place.at + (1 + body.len()), role);
     Row {
         role: role.number(),
         first,
         second,
         end: narrow(end),
-        enclosing,
-        frame: narrow(here.size),
-        depth: narrow(here.depth),
-        loops,
-        offset: narrow(at),
+        enclosing: place.enclosing,
+        frame: narrow(place.here.size),
+        depth: narrow(place.here.depth),
+        loops: place.loops,
+        offset: narrow(place.at),
         skip,
     }
 }
@@ -161,18 +162,20 @@ pub fn lay_rows(sheet: &[u8], count: usize, rows: &mut Rows)
     requires { count ≡ length (records_of sheet.now) }
     ensures { rows.new ≡ stored_in rows.old (rows_stored (records_of sheet.now)) }
 {
-    let mut at: usize = 0;
-    let mut loops: u16 = 0;
-    let mut enclosing: u16 = 0;
-    let mut here = Nesting::nothing();
+    let mut place = Place {
+        at: 0,
+        loops: 0,
+        enclosing: 0,
+        here: Nesting::nothing(),
+    };
     for number in 0..count {
-        let kind = byte_at(sheet, at);
+        let kind = byte_at(sheet, place.at);
         let role = role_of(Kind::of(kind));
-        let row = row_of(sheet, count, number, at, loops, enclosing, here);
+        let row = row_of(sheet, count, number, place);
         put_row(rows, number, row);
-        enclosing = enclosing_after(rows, role, number, enclosing);
-        loops = loops_after(role, loops);
-        here = here.after(kind);
-        at += 1 + body_length(kind);
+        place.enclosing = enclosing_after(rows, role, number, place.enclosing);
+        place.loops = loops_after(role, place.loops);
+        place.here = place.here.after(kind);
+        place.at += 1 + body_length(kind);
     }
 }

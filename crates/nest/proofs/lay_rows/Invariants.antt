@@ -4,4 +4,4 @@ use Rattle.nest.proofs.lay_rows.Given as goal
 
 abbrev pub invariant-loop-number : goal.invariant-loop-number
 invariant-loop-number l =
-    Laying l.sheet l.count l.initial.rows l.rows l.at l.loops l.enclosing l.here l.number
+    Laying l.sheet l.count l.initial.rows l.rows l.place.at l.place.loops l.place.enclosing l.place.here l.number

@@ -9,8 +9,8 @@ use Rattle.nest.proofs.RowWalk.{row_is}
 use native.Mathlib.Omega.{arith}
 use Rattle.nest.proofs.row_of.Goals as goal
 
-pub overflow_add-at : goal.overflow_add-at
-overflow_add-at c =
+pub overflow_add-place : goal.overflow_add-place
+overflow_add-place c =
     let next = next-by-body c.requires c.body_at-body.ensures in
     record { fits = omega (arith, next, next-inside c.requires, c.well_formed) }
 
