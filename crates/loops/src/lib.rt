@@ -65,6 +65,7 @@ pub fn survey(
         hi: none,
         starts: none,
     };
+    // Stays beside `around`, since `reach` and `around_with` read the one alone, and `pushes_with` the other.
     let mut pushes: [PerLoop; MAX_DEPTH] = [none; MAX_DEPTH];
     let mut here = Nesting::nothing();
     for number in 0..count {

@@ -17,7 +17,8 @@ use std::array::from_fn;
 // Each arm has a record of its own: its choice's, or the next arm's.
 const MAX_TRIP_ARMS: usize = MAX_RECORDS;
 
-// The arms that are kept of a loop's first trips, trip after trip: how many trips, and how many arms in each.
+// The arms that are kept of a loop's first trips, trip after trip: how many trips, and how many arms in each. That a trip has no more arms than a sheet has
+// records stays in each `requires`, and is no invariant, since `settled` and `settled_choice` promise an answer for any numbers.
 #[derive(Clone, Copy)]
 pub struct KeptArms<'a> {
     pub arms: &'a [Bounds],
@@ -49,7 +50,7 @@ impl KeptArms<'_> {
         self.arms.get(number).copied().unwrap_or(Bounds::exactly(0))
     }
 
-    // The series of an arm's most.
+    // The series of an arm's most. Stays beside that of the least, since one method over a closure would have to say in its contract what the closure answers.
     #[tactic(auto, unfolding(crate::specs::Settled::most_series))]
     fn most_series(self, arm: usize) -> Series
         requires { (self.per_trip ≤ trip_arms_limit) × (arm < self.per_trip) }
