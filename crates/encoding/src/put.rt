@@ -1,4 +1,5 @@
-// Bytes put at a position of a buffer; the answer is the position after them.
+// Bytes put at a position of a buffer; the answer is the position after them. Buffer and position stay two arguments, here and wherever bytes are put,
+// since a struct with the lent buffer would have to say in each contract that it still holds that loan, and no clause would go.
 ghost use Rattle.std.specs.Prelude.{◌≡◌, [], ◌∷◌, ◌+◌, ◌≤◌, ◌<◌, length};
 ghost use Rattle.encoding.specs.Append.{Appended};
 

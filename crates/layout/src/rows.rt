@@ -53,7 +53,7 @@ impl Role {
 // before it; its offset in the sheet; what a loop costs where it makes no trip.
 #[derive(Clone, Copy)]
 pub struct Row {
-    // Stays a number, and no `Role`, since `put_row` takes any.
+    // Stays a number, and no `Role`, since `put_row` takes any (docs/landings/C-19.md names it).
     pub role: u16,
     pub first: u16,
     pub second: u16,
