@@ -1,4 +1,5 @@
 pub mod Leaving
+pub mod Mapped
 pub mod FiguresCalls
 pub mod RangeCalls
 pub mod LentTexts

@@ -21,11 +21,7 @@ pub(crate) fn store_figures(
     if answer.len() < AREA_LENGTH {
         return Err(RefusalKind::ShortBuffer);
     }
-    match cycles(sheet, parameters, budget) {
-        Ok(figures) => {
-            put_figures(answer, figures);
-            Ok(())
-        }
-        Err(refusal) => Err(refusal.kind),
-    }
+    let figures = cycles(sheet, parameters, budget).map_err(|refusal| refusal.kind)?;
+    put_figures(answer, figures);
+    Ok(())
 }

@@ -24,11 +24,9 @@ pub(crate) fn store_extremes(
     if answer.len() < RANGE_AREA_LENGTH {
         return Err(RefusalKind::ShortBuffer);
     }
-    match cycles_over_range(sheet, parameters, budget, range) {
-        Ok(extremes) => {
-            put_extremes(answer, extremes);
-            Ok(())
-        }
-        Err(refusal) => Err(refusal.kind),
-    }
+    let extremes = cycles_over_range(sheet, parameters, budget, range).map_err(
+        |refusal| refusal.kind,
+    )?;
+    put_extremes(answer, extremes);
+    Ok(())
 }

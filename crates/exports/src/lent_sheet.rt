@@ -25,15 +25,11 @@ pub(crate) fn store_sheet(
 {
     let mut target: Sheet = [0; MAX_SHEET_LENGTH];
     let room = answer.len();
-    match convert(sheet, skips, &mut target) {
-        Ok(length) => {
-            if room < LENGTH_SIZE || buffer.len() < length {
-                return Err(RefusalKind::ShortBuffer);
-            }
-            put(buffer, 0, &target[..length]);
-            put_length(answer, length);
-            Ok(())
-        }
-        Err(refusal) => Err(refusal.kind),
+    let length = convert(sheet, skips, &mut target).map_err(|refusal| refusal.kind)?;
+    if room < LENGTH_SIZE || buffer.len() < length {
+        return Err(RefusalKind::ShortBuffer);
     }
+    put(buffer, 0, &target[..length]);
+    put_length(answer, length);
+    Ok(())
 }
