@@ -55,7 +55,8 @@ fn lay_out(sheet: &[u8], count: usize, skips: bool, target: &mut [u8]) -> Result
 }
 
 // Makes the new sheet, with a skip in every loop or in none: its length, or refusal 1 to 5, then 10.
-// Stays a flag, here and inward, since the clauses of `convert` are over one (`new_records skips`), which says whether new loops have skips.
+// Stays a flag, here, inward (`own` too) and in `exports`, since the clauses of `convert`, which docs/PROOFS.md lists, are over one (`new_records skips`): whether
+// loops have skips.
 pub fn convert(sheet: &[u8], skips: bool, target: &mut Sheet) -> Result<usize, Refusal>
     ensures answer { refusable result ≡ new_length (new_records skips sheet.now) }
     ensures laid { (new : List M.Record) → new_records skips sheet.now ≡ ok new →

@@ -1,5 +1,5 @@
-// Numbers in decimal, put at a position of a buffer; the answer is the position after them. They stay written here, and so do the lines of texts, since std's
-// formats allocate or print to a stream, and there is no heap; what follows a text in its buffer is promised to stay (`program_text`, clause `bytes`).
+// Numbers in decimal, put at a position of a buffer; the answer is the position after them. They stay written here, and so do the lines of texts, since
+// std's `write!` into a slice promises nothing of the bytes in it, and the kit's `itoa` writes a number before an end, from where each would be moved.
 ghost use Rattle.std.specs.Prelude.{◌≡◌, [], ◌∷◌, ◌+◌, ◌≤◌, ◌<◌, length};
 ghost use Rattle.meaning.specs.Text.{digit, digits, decimal};
 ghost use Rattle.encoding.specs.Append.{decimal_limit, Appended};

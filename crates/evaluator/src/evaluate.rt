@@ -1,6 +1,6 @@
 // The body evaluator and the loop evaluator, which call each other up to the start of a visit or the sheet's end: the records that are left fall
 // with each one passed that is no straight work, the nesting depth where a loop is left. They stay two functions that call each other, since a loop's
-// time rests on its body's, and a body's on the loops in it.
+// time rests on its body's, and a body's on the loops in it (docs/ARCHITECTURE.md).
 ghost use Rattle.std.specs.Prelude.{◌≡◌, ◌<◌, ◌≤◌};
 ghost use Rattle.meaning.specs.Limits.{record_limit, depth_limit};
 ghost use Rattle.evaluator.specs.Machine.{body_evaluator, loop_evaluator};

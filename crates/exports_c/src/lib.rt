@@ -1,4 +1,5 @@
-// The calls as C has them: each is the call of crate exports with the same contract, under its name for C.
+// The calls as C has them: each is the call of crate exports with the same contract, under its name for C. The clauses stand here again, since a crate is a library
+// or a static library (docs/DECISIONS.md).
 #![tactic(auto)]
 
 ghost use Rattle.std.specs.Prelude.{◌≡◌, [], ◌∷◌, true, false};

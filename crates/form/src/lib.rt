@@ -51,7 +51,8 @@ fn limited(x: i64) -> i64
 }
 
 // The differences of the factors of two forms.
-// Stays a loop over an index: tried with `from_fn`, where the closure's inferred contract says nothing of its result, since it reads arrays of N.
+// Stays a loop over an index, as `sum_of_products` does: tried with `from_fn`, which is not proved, since no contract is inferred for its closure over an
+// array whose length is a parameter.
 fn differences<const N: usize>(x: [i8; N], y: [i8; N]) -> [i16; N]
     ensures { result ≡ Z.subtract_lists x.entry y.entry }
 {

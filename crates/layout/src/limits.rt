@@ -18,7 +18,7 @@ const LARGEST: usize = 0;
 const RANKED_MARK: u16 = 8;
 
 // The number that is stored of a loop with this limit. Stays a number with a mark, and 0 of a walked loop, in `limit_at` and `ranked_at` too, since
-// docs/landings/C-18.md names these contracts and the clause `limits` of `planner::plan` promises each number.
+// the clause `limits` of `planner::plan` promises each number, and docs/landings/C-18.md the contracts of `limit_number` and `ranked_at`.
 pub fn limit_number(limit: usize, ranked: bool) -> u16
     ensures { result ≡ limit_number ranked limit }
 {

@@ -53,7 +53,7 @@ impl Role {
 // before it; its offset in the sheet; what a loop costs where it makes no trip.
 #[derive(Clone, Copy)]
 pub struct Row {
-    // Stays a number, and no `Role`, since `put_row` takes any (docs/landings/C-19.md names it).
+    // Stays a number, and no `Role`, since docs/PROOFS.md promises what is stored of any numbers (row `layout`).
     pub role: u16,
     pub first: u16,
     pub second: u16,
@@ -160,7 +160,7 @@ pub fn entry_cost_at(rows: &Rows, number: usize, trips: u64) -> u64
     u64::from(rows[row_from(number) + column])
 }
 
-// The step of a loop.
+// The step of a loop. Stays beside `most_at`, since the two are one number of a row by two names, each for its kind of record.
 pub fn step_at(rows: &Rows, number: usize) -> u64
     ensures { result ≡ second_at rows.now number }
 {
@@ -181,7 +181,8 @@ pub fn after_end_at(rows: &Rows, number: usize) -> usize
     end_at(rows, number) + 1
 }
 
-// What is stored of the record that a record stands in: its number plus 1; 0 where it stands in none.
+// What is stored of the record that a record stands in: its number plus 1; 0 where it stands in none. Stays beside `enclosing_at`, since docs/PROOFS.md
+// promises every number that is read (row `layout`).
 pub fn enclosing_number_at(rows: &Rows, number: usize) -> u16
     ensures { result ≡ enclosing_at rows.now number }
 {

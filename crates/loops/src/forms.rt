@@ -24,7 +24,7 @@ use sheet::head::body_at;
 use sheet::nesting::Nesting;
 
 // The indexes of the open loops, an entry for each depth: from lo to hi, and where every counter is 0. Stays two arrays in place of one of ranges, since
-// `Form::range`, which docs/ARCHITECTURE.md names, takes the two.
+// `Form::range` takes the two (docs/PROOFS.md, row `form::Form`).
 #[derive(Clone, Copy)]
 pub struct Around {
     pub lo: PerLoop,
@@ -84,7 +84,7 @@ pub(crate) fn barred_by(here: Nesting) -> Barred
     }
 }
 
-// Whether a loop has a skip that differs from its start.
+// Whether a loop has a skip that differs from its start. Stays a flag beside the loop, since `Loop`'s field is a number where there is none (there, why).
 fn skip_differs(source: Loop, skips: bool) -> bool
     ensures { result ≡ not (eqb (skip_cycles (loop_of skips source)) source.start) }
 {

@@ -89,7 +89,7 @@ pub fn survey(
         );
         put_difference(&mut arrays.differences, of_loop, words);
         put_fact(&mut arrays.facts, of_loop, fact);
-        // Stays with two names, since no proof covers a call whose array is laid over the one that it takes.
+        // Stays with two names: tried as `around = around_with(.., around)`, which is not proved, since the result is laid over the argument.
         let inside = around_with(forms, outside.depth, around);
         let deeper = pushes_with(forms, outside.depth, pushes);
         around = inside;

@@ -96,7 +96,8 @@ fn end_of(sheet: &[u8], count: usize, number: usize, next: usize, role: Role) ->
     count
 }
 
-// Where a record stands: its offset, how many loops stand before it, the number of the record around it plus 1, and what is open there.
+// Where a record stands: its offset, how many loops stand before it, the number of the record around it plus 1, as its row has
+// it, and what is open there.
 #[derive(Clone, Copy)]
 struct Place {
     at: usize,
@@ -157,7 +158,8 @@ fn loops_after(role: Role, loops: u16) -> u16
     }
 }
 
-// Stores the rows of all records.
+// Stores the rows of all records. Sheet and count stay two arguments, here, in `loops::survey` and in the converter, since a struct of both would be made for
+// each of these calls and taken apart in it.
 pub fn lay_rows(sheet: &[u8], count: usize, rows: &mut Rows)
     requires { count ≡ length (records_of sheet.now) }
     ensures { rows.new ≡ stored_in rows.old (rows_stored (records_of sheet.now)) }

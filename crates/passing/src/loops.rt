@@ -32,7 +32,7 @@ pub struct Outcome {
 }
 
 // The open trip joins those visited before if the loop is walked; otherwise it is kept. A walked loop's limit stays 0, here and below, since that of
-// `trips::limit_unless` is (docs/landings/C-18.md).
+// `trips::limit_unless` is (docs/ARCHITECTURE.md).
 fn join_trip(limit: u64, around: usize, frame: usize, counter: u64, trip: Bounds, opened: &mut Open)
     requires counter_value { counter ≡ counter_at opened.old around }
     requires counter_bound { (limit ≢ 0) → suc (around + counter) < depth_limit }
@@ -113,7 +113,7 @@ fn join_kept(around: usize, held: u64, state: &mut State)
 // Whether the loop of which a trip ends is ranked and walked nevertheless: after its first trips, or in the last of them where its choices are found
 // unsettled, when it turns to walking: the kept trips join the open one, and their arms are dropped. It is asked before all else, since of most sheets
 // no loop is ranked: what follows is then quicker. What it reads of the loop stays read in `end_trip` too, since a struct
-// of both, with a method and its clauses, takes more lines than it saves, and the trips are worked out after two tests only.
+// of both, with a method and its clauses, takes more lines than it saves, and the trips are worked out after three tests only.
 fn turn_to_walking(arrays: &PlanArrays, depth: usize, state: &mut State) -> bool
     requires { depth ≤ depth_limit }
     ensures stands { state.new.at ≡ state.old.at }

@@ -42,8 +42,8 @@ fn is_loop_with(rows: &Rows, number: usize, m: usize) -> bool
     role_at(rows, number) == Role::Loop && depth_at(rows, number) == m
 }
 
-// Of the loops that a record stands in, the one with m loops around it: the last such loop before the record. Stays a number, 0 where there is none, since the
-// definition `loop_around` has that 0; it is asked only where such a loop is.
+// Of the loops that a record stands in, the one with m loops around it: the last such loop before the record. Stays a number, 0 where there is none, since an
+// Option would only be unwrapped at the one call, where there is such a loop; and a `for` that keeps the last, since the library has no law of `rev` over a range.
 fn loop_around(rows: &Rows, number: usize, m: usize) -> usize
     ensures { result ≡ loop_around rows.now m number }
 {

@@ -38,8 +38,8 @@ fn run_case<F: Read>(file: &mut F, case: Case) -> io::Result<Option<bool>> {
 }
 
 // Every case of the file; the last differs where the file ends within what follows its header.
-// Stays beside the same loop of `vectors`, since a loop of `cases` that calls a closure at each case would be no plainer
-// and could promise nothing: of none `Case::read` says nothing, so that each clause on that loop would hold of one that runs no case.
+// Stays beside the same loop of `vectors`, as `run_case` and `main` do, since a public function of `cases` needs a contract, and none could tell this loop
+// from one that runs no case.
 fn run_all<F: Read>(file: &mut F, tally: &mut Tally) -> io::Result<()> {
     for _ in 0..MOST_CASES {
         let Some(case) = Case::read(file)? else {

@@ -50,7 +50,7 @@ impl KeptArms<'_> {
         self.arms.get(number).copied().unwrap_or(Bounds::exactly(0))
     }
 
-    // The series of an arm's most. Stays beside that of the least, since one method over a closure would have to say in its contract what the closure answers.
+    // The series of an arm's most. Stays beside that of the least, since the two differ in the field and in `turned`: one method over a closure would be longer than both.
     #[tactic(auto, unfolding(crate::specs::Settled::most_series))]
     fn most_series(self, arm: usize) -> Series
         requires { (self.per_trip ≤ trip_arms_limit) × (arm < self.per_trip) }

@@ -117,7 +117,7 @@ impl Record {
     }
 }
 
-// Whether a number is that of a kind.
+// Whether a number is that of a kind. It stays a number, here and below, since a reader is defined over the kinds that a byte may name (docs/DECISIONS.md).
 #[tactic(auto, unfolding(crate::specs::View::is_some_kind))]
 pub fn is_kind(number: u8) -> bool
     ensures { result ≡ is_kind number }

@@ -9,7 +9,7 @@ use records::{body_length, is_kind};
 // A record's kind, and where its body begins and how long it is.
 #[derive(Clone, Copy, PartialEq, Eq)]
 pub struct Head {
-    // Stays a number, since `accept_record` takes one, whose clause `numbers` speaks of any number.
+    // Stays a number, since `accept_record` and `Record::decode`, to which it goes, take any number: a `Kind` would be turned back.
     pub kind: u8,
     pub offset: usize,
     pub length: usize,

@@ -8,7 +8,8 @@ use crate::bounds::Bounds;
 use crate::open::Open;
 use form::MAX_DEPTH;
 
-// Where a trip of a loop with so many loops around it is kept, by its number from 0 on.
+// Where a trip of a loop with so many loops around it is kept, by its number from 0 on. Depth and number stay numbers with a bound in each `requires`, since
+// each is an index and nothing else: a type with the bound would be taken apart at each use.
 #[tactic(auto, unfolding(crate::specs::Kept::kept_from))]
 fn kept_at(depth: usize, number: u64) -> usize
     requires { depth + number < depth_limit }
@@ -29,7 +30,7 @@ impl Open {
     }
 
     // The first trips: `held` kept ones, then the open one. Stays a case for each number of them: with a copy of the slice the sum of the trips took 12 ns in
-    // place of 7, measured in plain Rust, since a copy of a length that is not known is a call, and a whole stage takes some 15.
+    // place of 7, measured in plain Rust, since a copy of a length that is not known is a call, and a whole stage takes some 15 (bench/README.md).
     pub fn first_trips(&self, depth: usize, held: u64, last: Bounds) -> [Bounds; MAX_DEPTH]
         requires { depth + held < depth_limit }
         ensures { result ≡ first_trips self.now.kept depth held last }

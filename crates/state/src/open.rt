@@ -22,8 +22,8 @@ pub struct Frame {
     pub passed: Option<Bounds>,
 }
 
-// How many arms are kept, and each of them. Stays a length beside its buffer, since there is no heap, and a State, which `stages::stage` takes by value,
-// is Copy, as the kit's ArrayVec is not.
+// How many arms are kept, and each of them. Stays a length beside its buffer, since there is no heap, and the kit's ArrayVec
+// is no Copy: `State` would lose its Copy, which callers of `stages::stage` may use.
 #[derive(Clone, Copy)]
 pub struct Arms {
     pub count: usize,

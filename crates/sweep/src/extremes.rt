@@ -29,7 +29,7 @@ pub struct Extremes {
     pub visits: u64,
 }
 
-// Where the number stands first that no other beats.
+// Where the number stands first that no other beats. Stays a loop, since std's `max_by` answers the last of equal ones.
 fn first_best<F: Fn(u64, u64) -> bool>(numbers: &[u64], beats: F) -> usize
     requires callable { F.IsAlwaysCallable beats }
     requires some { 0 < length numbers.now }

@@ -24,7 +24,7 @@ fn difference_word(differences: &Differences, opened: &Open, number: usize) -> u
 }
 
 // A stride 0 counts as 1. Stays a test before the division, since most strides are 1: dividing by `stride.max(1)` took 10 ns in place of 2, and a whole
-// stage takes some 15.
+// stage takes some 15 (bench/README.md).
 fn quotient(d: u64, stride: u64) -> u64
     ensures { result ≡ d / max stride 1 }
 {
@@ -54,7 +54,7 @@ pub fn limit_within(limits: &Limits, number: usize, depth: usize) -> u64
     limit_at(limits, number).min((MAX_DEPTH - depth) as u64)
 }
 
-// The same where a ranked loop may be walked in this trip: then 0. Stays a number with that 0, since the contract is so (docs/landings/C-18.md).
+// The same where a ranked loop may be walked in this trip: then 0. Stays a number with that 0, as docs/ARCHITECTURE.md names it.
 pub fn limit_unless(walked: bool, limits: &Limits, number: usize, depth: usize) -> u64
     requires { depth ≤ depth_limit }
     ensures { result ≡ (if walked then 0 else Trips.limit_within limits.now number depth) }
@@ -66,7 +66,7 @@ pub fn limit_unless(walked: bool, limits: &Limits, number: usize, depth: usize) 
     }
 }
 
-// How many of a loop's trips are visited: all of a walked loop's. Its limit stays 0, since that of `limit_unless` is (docs/landings/C-18.md).
+// How many of a loop's trips are visited: all of a walked loop's. Its limit stays 0, since that of `limit_unless` is (docs/ARCHITECTURE.md).
 #[tactic(auto, unfolding(crate::specs::Trips::visited_by))]
 pub fn visited_by(limit: u64, trips: u64) -> u64
     ensures { result ≡ Trips.visited_by limit trips }

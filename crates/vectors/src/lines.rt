@@ -5,7 +5,7 @@ use reasons::Reason;
 use reasons::line::{REASON_LINE_LENGTH, reason_line};
 use reasons::reading::read_reason;
 
-// How a reason is stored: its number, 0 if there is none, and the offsets of its line, 0 for what it has not.
+// How a reason is stored: its number, 0 if there is none, and the offsets of its line, 0 for what it has not. These stay numbers, as in the stored cases.
 pub(crate) fn stored(reason: Option<Reason>) -> (u8, u16, u16) {
     match reason {
         None => (0, 0, 0),
