@@ -23,7 +23,7 @@ use sheet::reader::check_sheet;
 use sheet::refusal::{Refusal, RefusalKind};
 
 // Stores the rows of the records that are read; of their loops, up to the first with too large a ceiling, what the parameters make of them; and
-// the limits of a plan. What the arrays hold behind these stays.
+// the limits of a plan. What the arrays hold behind these stays. The count stays beside the arrays, since these are promised on a refusal too, where there is none.
 pub fn plan(sheet: &[u8], parameters: Parameters, arrays: &mut PlanArrays) -> Result<usize, Refusal>
     ensures answer { refusable result ≡ plan_count (plan_of sheet.now parameters) }
     ensures rows { arrays.new.rows ≡ stored_in arrays.old.rows (rows_stored (records_of sheet.now)) }

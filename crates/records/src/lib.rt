@@ -24,7 +24,7 @@ pub enum Kind {
 }
 
 impl Kind {
-    // The kind with this number.
+    // The kind with this number: an Option, as the meaning's `kind_of`, so no TryFrom, here and where other numbers are told apart (docs/DECISIONS.md).
     #[tactic(auto, unfolding(meaning::specs::Record::kind_of))]
     pub fn of(number: u8) -> Option<Kind>
         ensures { meant result ≡ kind_of number }
@@ -83,7 +83,7 @@ pub struct Record {
 pub type Records = [Record; MAX_RECORDS];
 
 impl Record {
-    // A record of a kind, all fields 0.
+    // A record of a kind, all fields 0. Blank values have a function of this name and no Default, since this one takes the kind.
     pub fn blank(kind: u8) -> Record
         ensures { result ≡ blank_record kind }
     {
