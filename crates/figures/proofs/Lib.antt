@@ -4,3 +4,4 @@ pub mod Demands
 pub mod Settled
 pub mod KnownAnswers
 pub mod Consequences
+pub mod Budgets

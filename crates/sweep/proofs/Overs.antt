@@ -7,7 +7,6 @@ use native.Mathlib.Decide.{dec_le}
 use native.Mathlib.Omega.{arith}
 use borrow.Author.Tests.{le-leb, lt-leb}
 use lib.IntN.{ℤ}
-use Rattle.meaning.specs.Limits.{budget_limit}
 use Rattle.meaning.specs.Reader.{Result, ok, refused, require, and_then}
 use Rattle.meaning.specs.Answer.{Figures}
 use Rattle.meaning.proofs.Logic.{refused-is-not-ok, ok-injective, and_then-yes, and_then-no}
@@ -102,9 +101,8 @@ module _ (sheet : List ℕ) (ps : List ℤ) (budget : ℕ) (range : ParameterRan
 
 -- the same, from what the code tested
 pub filled-after : (sheet : List ℕ) (ps : List ℤ) (budget : ℕ) (range : ParameterRange) {allowed : Bool} → allowed ≡ range_allowed range → allowed ≡ true
-    → ¬ (budget ≡ 0) → budget ≤ budget_limit → {leasts mosts : List ℕ} (r : Result ℕ) {s : Result ℕ} → FilledTo sheet ps budget range r leasts mosts
+    → BudgetInRange budget → {leasts mosts : List ℕ} (r : Result ℕ) {s : Result ℕ} → FilledTo sheet ps budget range r leasts mosts
     → within_budget budget r ≡ s → FilledOver (figures_over sheet ps budget range) s leasts mosts
-filled-after sheet ps budget range tested passed some few {leasts} {mosts} r filled e =
-    let b : BudgetInRange budget = record { positive = omega arith; within = few } in
+filled-after sheet ps budget range tested passed b {leasts} {mosts} r filled e =
     subst (λ x. FilledOver (figures_over sheet ps budget range) x leasts mosts) e
     (filled-over sheet ps budget range (sym tested ∙ passed) b r filled)

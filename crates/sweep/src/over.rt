@@ -10,7 +10,7 @@ ghost use Rattle.sweep.specs.Overs.{blank, next_total, least_figure, most_figure
 ghost use Rattle.sweep.specs.Filled.{Begun, FilledTo, FilledOver};
 
 use crate::values::{MAX_VALUES, ParameterRange, is_allowed, parameters_at, value_count};
-use figures::{MAX_BUDGET, cycles};
+use figures::{budget_allowed, cycles};
 use form::Parameters;
 use sheet::refusal::{Refusal, RefusalKind};
 
@@ -92,7 +92,7 @@ fn fill_range(
             offset: 0,
         });
     }
-    if budget == 0 || MAX_BUDGET < budget {
+    if !budget_allowed(budget) {
         return Err(Refusal {
             kind: RefusalKind::BadBudget,
             offset: 0,

@@ -12,13 +12,14 @@ use Rattle.stages.proofs.Planned.{in_blank}
 use Rattle.figures.specs.Demand.{Answered}
 use Rattle.figures.proofs.Answering.{stopped-answer, planned, passed_on}
 use Rattle.figures.proofs.Demands.{only-visits-fall, promised, answer-demand}
+use Rattle.figures.proofs.Budgets.{in-range, out-of-range}
 use Rattle.figures.proofs.cycles.Goals as goal
 
-pub returns-then-budget-eq0 : goal.returns-then-budget-eq0
+pub returns-then-not-budget_allowed : goal.returns-then-not-budget_allowed
 unfolding Answered
-returns-then-budget-eq0 c =
+returns-then-not-budget_allowed c =
     let a = c.args in
-    let out : BudgetOutOfRange a.budget = ⊎_elim inl (λ w. inr w.1) c.then-budget-eq0.either in
+    let out : BudgetOutOfRange a.budget = out-of-range a.budget c.budget_allowed.ensures c.if-not-budget_allowed.true in
     let answers = sym (answer-out-of-range a.sheet.now a.parameters a.budget out) in
     record {
       answers = answers;
@@ -53,7 +54,7 @@ returns c =
     let differences = in_blank differences_length _ blank.differences call.differences in
     let facts = in_blank facts_length _ blank.facts call.facts in
     let limits = in_blank limits_length _ blank.limits call.limits in
-    let range : BudgetInRange c.args.budget = record { positive = omega (arith, c.if-budget-eq0.false); within = c.if-budget-gt-MAX_BUDGET.false } in
+    let range : BudgetInRange c.args.budget = in-range c.args.budget c.budget_allowed.ensures c.if-not-budget_allowed.false in
     let stopped = stopped-answer sheet parameters small count.0 count.1 rows differences facts limits count.2
     c.args.budget range c.repeat_stages-sums.ensures in
     let p = promised sheet parameters small c.args.budget c.figures_of.ensures stopped in
@@ -68,7 +69,7 @@ pub returns-in_err-count : goal.returns-in_err-count
 returns-in_err-count c =
     let sheet = c.args.sheet.now in
     let parameters = c.args.parameters in
-    let range : BudgetInRange c.args.budget = record { positive = omega (arith, c.if-budget-eq0.false); within = c.if-budget-gt-MAX_BUDGET.false } in
+    let range : BudgetInRange c.args.budget = in-range c.args.budget c.budget_allowed.ensures c.if-not-budget_allowed.false in
     let down = planned-refused sheet parameters c.plan.result c.plan.ensures.answer c.in_err-count.was in
     let answers = passed_on c.from_residual.result _ c.from_residual.ensures.1 ∙ sym (answer-refused sheet parameters c.args.budget _ _ range down) in
     record {
