@@ -206,7 +206,8 @@ fn end_trip(arrays: &PlanArrays, depth: usize, state: &mut State) -> Outcome
     }
 }
 
-// A loop's record: with no trip the stage goes on after its end, otherwise the first trip opens.
+// A loop's record: with no trip the stage goes on after its end, otherwise the first trip opens. The depth and the place stay numbers with a bound in each
+// `requires`, here and around: each is an index and nothing else, and a type with the bound would be taken apart at each use.
 fn enter_loop(arrays: &PlanArrays, depth: usize, state: &mut State) -> Outcome
     requires { (depth ≤ depth_limit) × (state.old.at < record_limit) }
     ensures { enter_loop arrays.now.rows arrays.now.differences depth state.old

@@ -14,6 +14,7 @@ pub(crate) const LINE: usize = 10;
 // A loop's offset, the number of its class, its ceiling, and how its reason is stored.
 type LoopLine = (u64, u8, u64, (u8, u16, u16));
 
+// A number, as the stored cases have it.
 fn class_number(class: Class) -> u8 {
     match class {
         Class::Walked => 0,
