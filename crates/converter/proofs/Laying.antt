@@ -7,7 +7,7 @@ use Prim.Native.Nat.{ℕ, ◌+◌, ◌*◌, ◌<◌, ◌≤◌}
 use native.Mathlib.Numerals.{add-one}
 use native.Mathlib.Omega.{arith}
 use lib.ListN.{length, get_or, take, drop, length-map, drop_of_length-le}
-use lib.Seq.{length-take-le, take_all, drop-cons}
+use lib.Seq.{length-take-le, drop-cons}
 use Rattle.meaning.specs.Limits.{record_limit, record_length_limit, sheet_length_limit}
 use Rattle.meaning.specs.Record.{Kind, kind_of, Record, end_record, kind, body_length, record_length, decode_record, body_bytes, record_bytes, sheet_length, sheet_bytes}
 use Rattle.meaning.specs.Reader.{Result, ok, refused, require, and_then, Head, head_at, body_of, body_at}
@@ -150,9 +150,6 @@ module _ (sheet : List ℕ) (skips : Bool) where
 
     -- no record is left
     module _ (end : count ≤ number) where
-      all-taken : take number (records_of sheet) ≡ records_of sheet
-      all-taken = take_all number (records_of sheet) (omega (arith, g.all))
-
       none_left : drop number (records_of sheet) ≡ []
       none_left = let past : length (records_of sheet) ≤ number = omega (arith, g.all) in drop_of_length-le (records_of sheet) past
 

@@ -1,6 +1,6 @@
 -- What the code reads at a record's offset; the end of a record, found by the roles of the records after it.
 use mathlib.Core.List.{List, [], ◌∷◌}
-use mathlib.Core.Path.{ap, ap₂, refl, subst, sym, ◌∙◌, ◌≡◌}
+use mathlib.Core.Path.{ap, ap₂, subst, sym, ◌∙◌, ◌≡◌}
 use mathlib.Core.Bool.{cond}
 use Prim.Native.Nat.{◌+◌, ◌-◌, ◌<◌, ◌^◌, suc, ℕ, ◌≤◌}
 use native.Mathlib.Numerals.{add-one}
@@ -19,7 +19,7 @@ use Rattle.sheet.specs.Sheets.{records_of}
 use Rattle.sheet.proofs.SheetRecords.{few-records, kind-there, length-by-number, next-offset, record-fits, record-stands}
 use Rattle.layout.specs.declared.rows.Role.{Role}
 use Rattle.layout.specs.Rows.{role_of}
-use Rattle.nest.specs.Known.{RecordAt, RecordBefore}
+use Rattle.nest.specs.Known.{RecordAt}
 use Rattle.nest.specs.Roles.{open_after_role, role_of_byte}
 use Rattle.nest.specs.Walk.{records_inside}
 use Rattle.nest.proofs.Roles.{inside-step, open-small, role-of-record}
@@ -70,9 +70,6 @@ pub record Ending (sheet : List ℕ) (count n opened here i : ℕ) : Type 0 wher
   pub some-open : 0 < opened
   pub offset : here ≡ sheet_length (take i (records_of sheet))
   pub same : n + 1 + records_inside 0 (drop (n + 1) (records_of sheet)) ≡ i + records_inside (opened - 1) (drop i (records_of sheet))
-
-pub ending-start : {sheet : List ℕ} {count n next : ℕ} → RecordBefore sheet count n next → Ending sheet count n 1 next (n + 1)
-ending-start g = record { all = g.all; so_far = omega (arith, g.there); small = omega arith; some-open = omega arith; offset = g.offset; same = refl }
 
 module _ {sheet : List ℕ} {count n opened here i : ℕ} (g : Ending sheet count n opened here i) where
   abbrev rs : List Record

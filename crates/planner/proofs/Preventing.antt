@@ -173,17 +173,6 @@ number_there rows number fs = number_among (depth_at rows number) (take (end_at 
 depth_below : (rows : List ℕ) (n : ℕ) → depth_at rows n ≤ depth_limit
 depth_below rows n = omega arith
 
-pub limiting-start : (rows differences facts : List ℕ) (number depth end : ℕ) → depth ≡ depth_at rows number → end ≡ end_at rows number →
-    Limiting rows differences facts number depth end depth false (number + 1)
-limiting-start rows differences facts number depth end d e = record {
-  depth_is = d;
-  end_is = e;
-  past = omega arith;
-  deep = omega arith;
-  low = omega (arith, depth_below rows number);
-  rest = λ fs known. record { ranking = refl; closing = refl; height = omega arith };
-}
-
 number-walked : (height : ℕ) → number_of walked_class height ≡ 0
 unfolding number_of is_ranked limit_of limit_number
 number-walked height = refl

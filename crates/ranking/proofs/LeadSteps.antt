@@ -14,10 +14,6 @@ module _ (arms : List Bounds) (count arms_per_trip : ℕ) where
 
   -- ---- arm after arm
 
-  pub leads-opened : (j end : ℕ) (leads : Leads) → leads ≡ begun j →
-      onward (end - (j + 1)) (j + 1) leads ≡ onward (end - suc j) (suc j) (begun j)
-  leads-opened j end leads e = let further : j + 1 ≡ suc j = omega arith in λ i. onward (end - further i) (further i) (e i)
-
   pub leads-done : (j end : ℕ) (leads : Leads) → end ≤ j → leads ≡ onward (end - j) j leads
   unfolding leads_from lead_over
   leads-done j end leads h = let e : end - j ≡ 0 = omega arith in rw e
