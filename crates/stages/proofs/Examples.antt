@@ -4,7 +4,6 @@ use mathlib.Core.Path.{refl, ◌∙◌, ◌≡◌}
 use Prim.Native.Nat.{◌-◌, ℕ}
 use native.Mathlib.Omega.{arith}
 use lib.ListN.{length, replicate}
-use Rattle.std.specs.Prelude.{None, Some}
 use Rattle.meaning.specs.Limits.{depth_limit, open_limit}
 use Rattle.meaning.specs.Answer.{accepted}
 use Rattle.meaning.specs.Stage as Meaning
@@ -20,8 +19,8 @@ use Rattle.state.specs.declared.sums.Sums.{Sums}
 use Rattle.state.specs.declared.open.Frame.{Frame}
 use Rattle.state.specs.Bounds.{bounds, no_bounds}
 use Rattle.state.specs.Sums.{sums}
-use Rattle.state.specs.Open.{blank_frame, filled, kept_arms_limit, kept_limit}
-use Rattle.state.specs.Frames.{frame_with}
+use Rattle.state.specs.Open.{nothing_passed, blank_frame, filled, kept_arms_limit, kept_limit}
+use Rattle.state.specs.Frames.{frame_with, arms_passed, trips_passed}
 use Rattle.state.specs.States.{state_with}
 use Rattle.stages.specs.Represent.{arms_of, counter_numbers, each_trip_of, frames_of, keeps_each, kept_of, open_of, passed_arms_of, passed_trips_of, struct_of}
 use Rattle.stages.specs.Next.{states_after}
@@ -36,12 +35,15 @@ struct_computes = tt
 abbrev up_to : {A : Type 0} → A → ℕ → List A → List A
 up_to blank n xs = xs ++ replicate (n - length xs) blank
 
--- a frame that passed nothing, and one that passed an arm or trips: the least and the most around it, and those that it passed
+-- a frame that passed nothing, one that passed trips, and one that passed an arm: the least and the most around it, and those that it passed
 abbrev open_around : ℕ → ℕ → Frame
-open_around least most = frame_with (bounds least most) None
+open_around least most = frame_with (bounds least most) nothing_passed
 
 abbrev open_passed : ℕ → ℕ → ℕ → ℕ → Frame
-open_passed least most passed_least passed_most = frame_with (bounds least most) (Some (bounds passed_least passed_most))
+open_passed least most passed_least passed_most = frame_with (bounds least most) (trips_passed (bounds passed_least passed_most))
+
+abbrev arm_passed : ℕ → ℕ → ℕ → ℕ → Frame
+arm_passed least most passed_least passed_most = frame_with (bounds least most) (arms_passed (bounds passed_least passed_most))
 
 -- a state, what is not open left out: where it stands, the sums, the counters, the frames, the kept trips, the kept arms
 abbrev arms_written : ℕ → Sums → List ℕ → List Frame → List Bounds → List Bounds → State
@@ -193,9 +195,9 @@ sheet_choices = hex "02000001000100010000000000000000020000000000000000040401020
 pub states-choices :
     (states_after sheet_choices zero_parameters 0 ≡ written_state 0 (sums 0 0 0) [] [] [])
     × (states_after sheet_choices zero_parameters 1 ≡ written_state 1 (sums 0 0 1) (0 ∷ []) (open_around 0 0 ∷ []) [])
-    × (states_after sheet_choices zero_parameters 2 ≡ written_state 11 (sums 0 0 2) (0 ∷ 0 ∷ []) (open_around 0 0 ∷ open_passed 0 0 1 4 ∷ open_around 0 0 ∷ []) [])
+    × (states_after sheet_choices zero_parameters 2 ≡ written_state 11 (sums 0 0 2) (0 ∷ 0 ∷ []) (open_around 0 0 ∷ arm_passed 0 0 1 4 ∷ open_around 0 0 ∷ []) [])
     × (states_after sheet_choices zero_parameters 3 ≡ written_state 1 (sums 0 0 3) (1 ∷ []) (open_passed 0 0 6 9 ∷ []) [])
-    × (states_after sheet_choices zero_parameters 4 ≡ written_state 11 (sums 0 0 4) (1 ∷ 0 ∷ []) (open_passed 0 0 6 9 ∷ open_passed 0 0 1 4 ∷ open_around 0 0 ∷ []) [])
+    × (states_after sheet_choices zero_parameters 4 ≡ written_state 11 (sums 0 0 4) (1 ∷ 0 ∷ []) (open_passed 0 0 6 9 ∷ arm_passed 0 0 1 4 ∷ open_around 0 0 ∷ []) [])
     × (states_after sheet_choices zero_parameters 5 ≡ written_state 16 (sums 12 18 4) [] [] [])
     × (states_after sheet_choices zero_parameters 6 ≡ written_state 16 (sums 12 18 4) [] [] [])
 unfolding struct_computes

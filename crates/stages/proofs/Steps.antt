@@ -9,7 +9,6 @@ use native.Mathlib.Nat.{mod-eq_of_lt}
 use lib.Dec.{eqb, ltb}
 use lib.ListN.{get_or, length, length-append, length-map, set}
 use lib.IntN.{ℤ}
-use Rattle.std.specs.Prelude.{Option, None, Some}
 use Rattle.meaning.specs.Time.{bounds, entry_cost, exactly, ◌⊕◌, Bounds}
 use Rattle.meaning.specs.Stage.{Frame, KeptArms, add_arm, choice_frame, keep_arm, loop_frame, no_arms, ranges_of, trips_kept}
 use Rattle.meaning.specs.Record.{Loop, Record}
@@ -22,14 +21,15 @@ use Rattle.layout.specs.Loops.{ranked_at}
 use Rattle.state.specs.declared.State.{State}
 use Rattle.state.specs.declared.bounds.Bounds as declared
 use Rattle.state.specs.declared.sums.Sums.{Sums}
+use Rattle.state.specs.declared.open.Passed.{Passed}
 use Rattle.state.specs.declared.open.Frame as opened
 use Rattle.state.specs.declared.open.Arms.{Arms}
 use Rattle.state.specs.declared.open.Open.{Open}
 use Rattle.state.specs.Bounds.{bounds as kept_bounds, no_bounds, plus, wrapped_sum}
-use Rattle.state.specs.Open.{kept_arms_limit, counter_at, filled, with_arms, with_frames}
+use Rattle.state.specs.Open.{kept_arms_limit, nothing_passed, counter_at, filled, with_arms, with_frames}
 use Rattle.state.specs.States.{state_with}
 use Rattle.state.specs.Sums.{added, from_zero, visit_begins, with_sums}
-use Rattle.state.specs.Frames.{all_passed, arm_joins, arm_passed, frame_left, frame_opened, frame_with, passed_around, sums_around, trip_passed}
+use Rattle.state.specs.Frames.{arm_joins, arm_passed, arms_passed, frame_left, frame_opened, frame_with, passed_around, sums_around, trip_joins, trip_passed, trips_passed}
 use Rattle.state.specs.Kept.{kept_from, kept_room, first_trips, forgotten, held_trips, trip_kept, trips_bounds}
 use Rattle.state.specs.Arms.{arm_kept, arms_dropped}
 use Rattle.trips.specs.Trips.{limit_now, trips_at, visited_by}
@@ -75,14 +75,14 @@ limit_for false h = 0
 -- ---- what was passed
 
 -- with the open arm
-arm-added : (passed : Defined.Option Bounds) (c : Bounds) → arm_joins (passed_arms_of passed) (bounds_of c) ≡ bounds_of (add_arm passed c)
+arm-added : (passed : Defined.Option Bounds) (c : Bounds) → arm_joins (passed_arms_of passed) (bounds_of c) ≡ passed_arms_of (Defined.some (add_arm passed c))
 unfolding passed_arms_of add_arm
 arm-added Defined.none c = refl
 arm-added (Defined.some p) c = refl
 
 -- of a loop of which no trip was visited
-trips_none : (each : Bool) → passed_trips_of each [] ≡ None
-unfolding passed_trips_of
+trips_none : (each : Bool) → passed_trips_of each [] ≡ nothing_passed
+unfolding passed_trips_of add_all
 trips_none true = refl
 trips_none false = refl
 
@@ -92,21 +92,20 @@ each_none true = refl
 each_none false = refl
 
 -- the sum of those visited
-trips-passed : (sums : List Bounds) → all_passed (passed_trips_of false sums) ≡ bounds_of (add_all sums)
-unfolding passed_trips_of add_all
-trips-passed [] = refl
-trips-passed (x ∷ xs) = refl
+trips-passed : (sums : List Bounds) → (passed_trips_of false sums).bounds ≡ bounds_of (add_all sums)
+unfolding passed_trips_of
+trips-passed sums = refl
 
 -- and one more
-trip-added : (sums : List Bounds) (trip : Bounds) → passed_trips_of false (add_trip false sums trip) ≡ Some (bounds_of (add_all sums ⊕ trip))
+trip-added : (sums : List Bounds) (trip : Bounds) → passed_trips_of false (add_trip false sums trip) ≡ trips_passed (bounds_of (add_all sums ⊕ trip))
 unfolding passed_trips_of add_trip add_all
-trip-added sums trip = ap (λ (b : Bounds). Some (bounds_of b)) (⊕-zero (add_all sums ⊕ trip))
+trip-added sums trip = ap (λ (b : Bounds). trips_passed (bounds_of b)) (⊕-zero (add_all sums ⊕ trip))
 
 joined-exact : (sums : List Bounds) (trip : Bounds) → Fits (add_all sums ⊕ trip) →
-    Some (plus (all_passed (passed_trips_of false sums)) (bounds_of trip)) ≡ passed_trips_of false (add_trip false sums trip)
+    trip_joins (passed_trips_of false sums) (bounds_of trip) ≡ passed_trips_of false (add_trip false sums trip)
+unfolding passed_trips_of
 joined-exact sums trip fits =
-    ap (λ (b : declared.Bounds). Some (plus b (bounds_of trip))) (trips-passed sums)
-    ∙ ap (λ (b : declared.Bounds). Some b) (plus_exact (add_all sums) trip fits) ∙ sym (trip-added sums trip)
+    ap (λ (b : declared.Bounds). trips_passed b) (plus_exact (add_all sums) trip fits) ∙ sym (trip-added sums trip)
 
 one_longer : (fs : List opened.Frame) (f : opened.Frame) → length (fs ++ (f ∷ [])) ≡ suc (length fs)
 one_longer fs f = omega (arith, length-append fs (f ∷ []))
@@ -181,7 +180,7 @@ module _ (ps : List ℤ) where
     unfolding frames_of passed_arms_of
     arm-passed passed enclosing c fs room =
         arm-joins (frames_of ps fs) (length fs) (frames-length fs) room (bounds_of enclosing) (passed_arms_of passed) (bounds_of c)
-        ∙ ap (λ (b : declared.Bounds). all_frames (frames_of ps fs ++ (frame_with (bounds_of enclosing) (Some b) ∷ []))) (arm-added passed c)
+        ∙ ap (λ (p : Passed). all_frames (frames_of ps fs ++ (frame_with (bounds_of enclosing) p ∷ []))) (arm-added passed c)
 
     -- the open arm is kept, where there is room
     arm-kept-so : (limits : List ℕ) (q : ℕ) (c : Bounds) (gs : List Frame) (a : KeptArms) (keeps : Bool) →
@@ -229,9 +228,9 @@ module _ (ps : List ℤ) where
       choice-left role fits =
           let p : Bounds = add_arm passed c in
           let xs : List opened.Frame = frames_of ps fs in
-          let around = passed-around xs (length fs) (frames-length fs) room (bounds_of enclosing) (Some (bounds_of p)) (sums_of c v)
+          let around = passed-around xs (length fs) (frames-length fs) room (bounds_of enclosing) (arms_passed (bounds_of p)) (sums_of c v)
           ∙ ap (λ (b : declared.Bounds). with_sums (sums_of c v) b) (plus_exact enclosing p fits) in
-          let blank = frame-blanked xs (length fs) (frames-length fs) room (bounds_of enclosing) (Some (bounds_of p)) in
+          let blank = frame-blanked xs (length fs) (frames-length fs) room (bounds_of enclosing) (arms_passed (bounds_of p)) in
           arm-leaves 2 role refl
           ∙ ap (λ (f : List opened.Frame). state_with (n + 1) (passed_around f (length fs) (sums_of c v)) (with_frames (open_of ps fs (keep_arm keeps a c)) (frame_left f (length fs)))) (arm-passed passed enclosing c fs room)
           ∙ ap₂ (λ (x : Sums) (f : List opened.Frame). state_with (n + 1) x (with_frames (open_of ps fs (keep_arm keeps a c)) f)) around blank
@@ -273,7 +272,7 @@ module _ (ps : List ℤ) where
             let visits = one-visit-more v more in
             let frames = ap (λ (o : ℕ). frame_opened (all_frames (frames_of ps fs)) o around) frame
             ∙ frame-opened (frames_of ps fs) (length fs) (frames-length fs) room around
-            ∙ ap (λ (p : Option declared.Bounds). all_frames (frames_of ps fs ++ (frame_with around p ∷ []))) (sym (trips_none each)) in
+            ∙ ap (λ (p : Passed). all_frames (frames_of ps fs ++ (frame_with around p ∷ []))) (sym (trips_none each)) in
             let counters = sym (counter-blank (counter_numbers fs) d refl depth) in
             let trips-kept = sym (ap (λ (bs : List declared.Bounds). all_kept (kept_of ps fs ++ filled no_bounds (kept_room d) bs)) (each_none each) ∙ kept-blank (kept_of ps fs) d kept depth) in
             loop-starts d ∙ ap (λ (i : ℕ). enter_with rows i entered d (standing n c v fs a)) e
@@ -298,7 +297,7 @@ module _ (ps : List ℤ) where
         trip_sums = sums_of trip v
 
         -- the frame, and the kept trips with those of the loop
-        abbrev frames_with : Option declared.Bounds → List opened.Frame
+        abbrev frames_with : Passed → List opened.Frame
         frames_with passed = all_frames (frames_of ps fs ++ (frame_with (bounds_of enclosing) passed ∷ []))
 
         abbrev kept_with : List declared.Bounds → List declared.Bounds
@@ -383,7 +382,7 @@ module _ (ps : List ℤ) where
             ∙ trip-kept (kept_of ps fs) d kept depth (each_of sums) j (bounds_of trip) (omega (arith, size, few.0)) (omega (arith, size, few.0, few.1))
             ∙ ap kept_with (sym (map-append bounds_of sums (trip ∷ []))) in
             λ i. state_with (q + 1) (sums_of (exactly zero) (one-visit-more v more i))
-            (record { counters = counters-more i; frames = frames_with None; kept = keeps i; arms = same i })
+            (record { counters = counters-more i; frames = frames_with nothing_passed; kept = keeps i; arms = same i })
 
         -- ---- the sum of trips from those kept and the open one
 
@@ -418,8 +417,8 @@ module _ (ps : List ℤ) where
             ap₂ (λ (k : ℕ) (o : ℕ). plus no_bounds (sum k o)) counter-is held ∙ ap (plus no_bounds) come.sum_is
             ∙ plus_exact (exactly zero) x (record { least_fits = omega (arith, sum_fits.least_fits); most_fits = omega (arith, sum_fits.most_fits) })
             ∙ ap bounds_of (zero-⊕ x) in
-            let frames = trip-joins (frames_of ps fs) (length fs) (frames-length fs) room (bounds_of enclosing) None _
-            ∙ ap (λ (b : declared.Bounds). frames_with (Some b)) all ∙ ap frames_with (sym (trip-added sums trip)) in
+            let frames = trip-joins (frames_of ps fs) (length fs) (frames-length fs) room (bounds_of enclosing) nothing_passed _
+            ∙ ap (λ (b : declared.Bounds). frames_with (trips_passed b)) all ∙ ap frames_with (sym (trip-added sums trip)) in
             let blank = ap (forgotten held-trips d) held ∙ forgets come.counted come.fitting ∙ sym (kept-blank (kept_of ps fs) d kept depth) in
             λ i. state_with (q + 1) (sums_of (exactly zero) (one-visit-more v more i))
             (record { counters = counters-more i; frames = frames i; kept = blank i; arms = arms-drop a few i })
@@ -446,7 +445,7 @@ module _ (ps : List ℤ) where
             let xs : List opened.Frame = frames_of ps fs in
             let given = walked refl in
             let frames = trip-joins-sum given.0 in
-            let passed : Option declared.Bounds = passed_trips_of false (add_trip false sums trip) in
+            let passed : Passed = passed_trips_of false (add_trip false sums trip) in
             let around = passed-around xs (length fs) (frames-length fs) room (bounds_of enclosing) passed trip_sums
             ∙ ap (λ (b : declared.Bounds). with_sums trip_sums (plus (bounds_of enclosing) b)) (trips-passed (add_trip false sums trip) ∙ ap bounds_of given.1)
             ∙ ap (λ (b : declared.Bounds). with_sums trip_sums b) (plus_exact enclosing sum sum_fits) in
@@ -458,7 +457,7 @@ module _ (ps : List ℤ) where
             let xs : List opened.Frame = frames_of ps fs in
             let held : List declared.Bounds = kept_with (each_of sums) in
             let come = kept_fits refl in
-            let passed : Option declared.Bounds = passed_trips_of true sums in
+            let passed : Passed = passed_trips_of true sums in
             let frames : List opened.Frame = frames_with passed in
             let around = ap (λ (b : declared.Bounds). sums_around frames (length fs) b trip_sums) come.sum_is
             ∙ sums-around xs (length fs) (frames-length fs) room (bounds_of enclosing) passed (bounds_of sum) trip_sums

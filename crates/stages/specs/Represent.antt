@@ -1,5 +1,5 @@
 -- The state that stands for a state of the definition: its numbers as they are, none of them modulo 2^64, and blank where nothing is open.
-use Rattle.std.specs.Prelude.{List, [], ◌∷◌, ◌++◌, map, Bool, true, false, ◌&&◌, ◌||◌, ℕ, ◌-◌, ℤ, leb, length, Option, None, Some}
+use Rattle.std.specs.Prelude.{List, [], ◌∷◌, ◌++◌, map, Bool, true, false, ◌&&◌, ◌||◌, ℕ, ◌-◌, ℤ, leb, length}
 use Rattle.std.proofs.Math.Option as Defined
 use Rattle.meaning.specs.Record.{Loop, Record}
 use Rattle.meaning.specs.Tree.{Block, tree, height}
@@ -13,14 +13,15 @@ use Rattle.meaning.specs.Stage.{Frame, loop_frame, choice_frame, KeptArms, trips
 use Rattle.ranking.specs.Settled.{bounds_of, trips_arms}
 use Rattle.state.specs.declared.State.{State}
 use Rattle.state.specs.declared.bounds.Bounds as declared
+use Rattle.state.specs.declared.open.Passed.{Passed}
 use Rattle.state.specs.declared.open.Frame as opened
 use Rattle.state.specs.declared.open.Arms.{Arms}
 use Rattle.state.specs.declared.open.Open.{Open}
 use Rattle.state.specs.declared.sums.Sums.{Sums}
 use Rattle.state.specs.Bounds.{no_bounds}
 use Rattle.state.specs.Sums.{sums}
-use Rattle.state.specs.Open.{kept_limit, kept_arms_limit, blank_frame, filled}
-use Rattle.state.specs.Frames.{frame_with}
+use Rattle.state.specs.Open.{kept_limit, kept_arms_limit, nothing_passed, blank_frame, filled}
+use Rattle.state.specs.Frames.{frame_with, arms_passed, trips_passed}
 use Rattle.state.specs.Kept.{kept_room}
 use Rattle.state.specs.States.{state_with}
 
@@ -39,15 +40,14 @@ counter_numbers (loop_frame l body counter visited_sums enclosing ∷ fs) = coun
 counter_numbers (choice_frame passed_arms enclosing ∷ fs) = counter_numbers fs
 
 -- the arms passed of an open choice, where one was
-unfoldable pub passed_arms_of : Defined.Option Bounds → Option declared.Bounds
-passed_arms_of Defined.none = None
-passed_arms_of (Defined.some passed) = Some (bounds_of passed)
+unfoldable pub passed_arms_of : Defined.Option Bounds → Passed
+passed_arms_of Defined.none = nothing_passed
+passed_arms_of (Defined.some passed) = arms_passed (bounds_of passed)
 
--- of an open loop: the trips visited before, where each is kept, and otherwise their sum, where there was one
-unfoldable pub passed_trips_of : Bool → List Bounds → Option declared.Bounds
-passed_trips_of true visited_sums = None
-passed_trips_of false [] = None
-passed_trips_of false (trip ∷ trips) = Some (bounds_of (add_all (trip ∷ trips)))
+-- of an open loop: the trips visited before, where each is kept, and otherwise their sum
+unfoldable pub passed_trips_of : Bool → List Bounds → Passed
+passed_trips_of true visited_sums = nothing_passed
+passed_trips_of false visited_sums = trips_passed (bounds_of (add_all visited_sums))
 
 unfoldable pub each_trip_of : Bool → List Bounds → List declared.Bounds
 each_trip_of true visited_sums = each_of visited_sums

@@ -1,15 +1,16 @@
 -- What the steps on the open loops and records make of the innermost one, which stands behind the others.
-use Rattle.std.proofs.Common.{◌≡◌, ℕ, zero, suc, ◌+◌, ◌-◌, ◌%◌, ◌<◌, ◌≤◌, List, [], ◌∷◌, ◌++◌, Option, None, Some, length, get_or, take, drop, set, replicate, sym, refl, ap, ◌∙◌, append_assoc, arith}
+use Rattle.std.proofs.Common.{◌≡◌, ℕ, zero, suc, ◌+◌, ◌-◌, ◌%◌, ◌<◌, ◌≤◌, List, [], ◌∷◌, ◌++◌, length, get_or, take, drop, set, replicate, sym, refl, ap, ◌∙◌, append_assoc, arith}
 use Rattle.std.proofs.Common.{length-append, length-take, get_or-take, get_or-append-add, drop_at, take_at}
 use lib.ListN.{length-replicate, replicate-append-replicate}
 use Rattle.meaning.specs.Limits.{depth_limit, open_limit}
 use Rattle.state.specs.declared.bounds.Bounds.{Bounds}
+use Rattle.state.specs.declared.open.Passed.{Passed}
 use Rattle.state.specs.declared.open.Frame.{Frame}
 use Rattle.state.specs.declared.sums.Sums.{Sums}
 use Rattle.state.specs.Bounds.{no_bounds, plus}
-use Rattle.state.specs.Open.{kept_limit, blanked, filled, blank_frame}
+use Rattle.state.specs.Open.{kept_limit, blanked, filled, nothing_passed, blank_frame}
 use Rattle.state.specs.Sums.{with_sums}
-use Rattle.state.specs.Frames.{frame_with, arm_joins, all_passed, frame_in, with_frame, frame_opened, frame_left, sums_around, passed_around, arm_passed, trip_passed}
+use Rattle.state.specs.Frames.{frame_with, arm_joins, trip_joins, frame_in, with_frame, frame_opened, frame_left, sums_around, passed_around, arm_passed, trip_passed}
 use Rattle.state.specs.Kept.{kept_room, kept_from, trip_kept, forgotten}
 use Rattle.state.proofs.KeptLaws.{room_within}
 
@@ -111,14 +112,14 @@ module _ (xs : List Frame) (number : ℕ) (behind : length xs ≡ number) (room 
   frame-none : all_frames (xs ++ (blank_frame ∷ [])) ≡ all_frames xs
   frame-none = top-blank blank_frame open_limit xs number behind room
 
-  pub frame-opened : (around : Bounds) → frame_opened (all_frames xs) number around ≡ all_frames (xs ++ (frame_with around None ∷ []))
+  pub frame-opened : (around : Bounds) → frame_opened (all_frames xs) number around ≡ all_frames (xs ++ (frame_with around nothing_passed ∷ []))
   unfolding frame_opened
   frame-opened around =
       ap (λ fs. with_frame fs number (frame_with around (frame_in fs number).passed)) (sym frame-none)
       ∙ ap (λ (f : Frame). with_frame (all_frames (xs ++ (blank_frame ∷ []))) number (frame_with around f.passed)) (frame-read blank_frame)
-      ∙ frame-set blank_frame (frame_with around None)
+      ∙ frame-set blank_frame (frame_with around nothing_passed)
 
-  module _ (around : Bounds) (passed : Option Bounds) where
+  module _ (around : Bounds) (passed : Passed) where
     abbrev with_top : List Frame
     with_top = all_frames (xs ++ (frame_with around passed ∷ []))
 
@@ -129,14 +130,14 @@ module _ (xs : List Frame) (number : ℕ) (behind : length xs ≡ number) (room 
         ∙ frame-set (frame_with around passed) (to (frame_with around passed))
 
     -- the open trip joins those visited before
-    pub trip-joins : (trip : Bounds) → trip_passed with_top number trip ≡ all_frames (xs ++ (frame_with around (Some (plus (all_passed passed) trip)) ∷ []))
+    pub trip-joins : (trip : Bounds) → trip_passed with_top number trip ≡ all_frames (xs ++ (frame_with around (trip_joins passed trip) ∷ []))
     unfolding trip_passed
-    trip-joins trip = changed (λ f. frame_with f.around (Some (plus (all_passed f.passed) trip)))
+    trip-joins trip = changed (λ f. frame_with f.around (trip_joins f.passed trip))
 
     -- the open arm joins those passed before
-    pub arm-joins : (arm : Bounds) → arm_passed with_top number arm ≡ all_frames (xs ++ (frame_with around (Some (arm_joins passed arm)) ∷ []))
+    pub arm-joins : (arm : Bounds) → arm_passed with_top number arm ≡ all_frames (xs ++ (frame_with around (arm_joins passed arm) ∷ []))
     unfolding arm_passed
-    arm-joins arm = changed (λ f. frame_with f.around (Some (arm_joins f.passed arm)))
+    arm-joins arm = changed (λ f. frame_with f.around (arm_joins f.passed arm))
 
     -- the frame is left
     pub frame-blanked : frame_left with_top number ≡ all_frames xs
@@ -148,9 +149,9 @@ module _ (xs : List Frame) (number : ℕ) (behind : length xs ≡ number) (room 
     unfolding sums_around
     sums-around more s = ap (λ (f : Frame). with_sums s (plus f.around more)) (frame-read (frame_with around passed))
 
-    pub passed-around : (s : Sums) → passed_around with_top number s ≡ with_sums s (plus around (all_passed passed))
+    pub passed-around : (s : Sums) → passed_around with_top number s ≡ with_sums s (plus around passed.bounds)
     unfolding passed_around sums_around
-    passed-around s = ap (λ (f : Frame). with_sums s (plus f.around (all_passed f.passed))) (frame-read (frame_with around passed))
+    passed-around s = ap (λ (f : Frame). with_sums s (plus f.around f.passed.bounds)) (frame-read (frame_with around passed))
 
 -- ---- counters
 

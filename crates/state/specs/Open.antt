@@ -1,7 +1,8 @@
 -- What is open: the counters of the open loops, the frames of the open records, the kept trips of the open closed and ranked loops, and the kept arms
 -- of the open ranked loop. What is not open is blank.
-use Rattle.std.specs.Prelude.{ℕ, ◌-◌, ◌*◌, ◌/◌, List, ◌++◌, take, drop, replicate, slice_index, slice_set, None}
+use Rattle.std.specs.Prelude.{ℕ, ◌-◌, ◌*◌, ◌/◌, List, ◌++◌, take, drop, replicate, slice_index, slice_set}
 use Rattle.meaning.specs.Limits.{record_limit, depth_limit, open_limit}
+use Rattle.state.specs.declared.open.Passed.{Passed}
 use Rattle.state.specs.declared.open.Frame.{Frame}
 use Rattle.state.specs.declared.open.Arms.{Arms}
 use Rattle.state.specs.declared.open.Open.{Open}
@@ -29,8 +30,11 @@ filled blank count xs = take count (xs ++ replicate count blank)
 
 -- ---- nothing open
 
+abbrev pub nothing_passed : Passed
+nothing_passed = record { bounds = no_bounds; arm = 0 }
+
 abbrev pub blank_frame : Frame
-blank_frame = record { around = no_bounds; passed = None }
+blank_frame = record { around = no_bounds; passed = nothing_passed }
 
 abbrev pub blank_arms : Arms
 blank_arms = record { count = 0; bounds = replicate kept_arms_limit no_bounds }

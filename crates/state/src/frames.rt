@@ -1,19 +1,37 @@
 // The frames of the open records.
 ghost use Rattle.std.specs.Prelude.{◌≡◌};
 ghost use Rattle.state.specs.Open.{with_frames};
-ghost use Rattle.state.specs.Frames.{all_passed, frame_opened, frame_left, sums_around, passed_around, arm_passed, trip_passed};
+ghost use Rattle.state.specs.Frames.{arm_joins, trip_joins, frame_opened, frame_left, sums_around, passed_around, arm_passed, trip_passed};
 
 use crate::bounds::Bounds;
-use crate::open::{Frame, Open};
+use crate::open::{Frame, Open, Passed};
 use crate::sums::Sums;
 use records::MAX_OPEN;
 
-impl Frame {
-    // All that it passed.
-    fn all_passed(&self) -> Bounds
-        ensures { result ≡ all_passed self.now.passed }
+impl Passed {
+    // With an arm more, the first or a further one.
+    fn with_arm(self, arm: Bounds) -> Passed
+        ensures { result ≡ arm_joins self arm }
     {
-        self.passed.unwrap_or(Bounds::exactly(0))
+        let bounds = if self.arm == 0 {
+            arm
+        } else {
+            self.bounds.joined(arm)
+        };
+        Passed {
+            bounds,
+            arm: self.arm.max(1),
+        }
+    }
+
+    // With a trip more.
+    fn with_trip(self, trip: Bounds) -> Passed
+        ensures { result ≡ trip_joins self trip }
+    {
+        Passed {
+            bounds: self.bounds.plus(trip),
+            arm: self.arm,
+        }
     }
 }
 
@@ -48,10 +66,7 @@ impl Open {
         ensures { self.new ≡ with_frames self.old (arm_passed self.old.frames number arm) }
     {
         let place = number % MAX_OPEN;
-        let joined = self.frames[place]
-            .passed
-            .map_or(arm, |passed| passed.joined(arm));
-        self.frames[place].passed = Some(joined);
+        self.frames[place].passed = self.frames[place].passed.with_arm(arm);
     }
 
     // The open trip joins the trips visited before of the walked loop that has the frame.
@@ -60,8 +75,7 @@ impl Open {
         ensures { self.new ≡ with_frames self.old (trip_passed self.old.frames number trip) }
     {
         let place = number % MAX_OPEN;
-        let passed = self.frames[place].all_passed().plus(trip);
-        self.frames[place].passed = Some(passed);
+        self.frames[place].passed = self.frames[place].passed.with_trip(trip);
     }
 
     // The frame of a choice or a walked loop is left, and what it passed goes to what is around it.
@@ -70,7 +84,7 @@ impl Open {
         ensures sums_after { sums.new ≡ passed_around self.old.frames number sums.old }
         ensures opened_after { self.new ≡ with_frames self.old (frame_left self.old.frames number) }
     {
-        let passed = self.frames[number % MAX_OPEN].all_passed();
+        let passed = self.frames[number % MAX_OPEN].passed.bounds;
         self.add_around(number, passed, sums);
         self.leave_frame(number);
     }

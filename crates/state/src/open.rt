@@ -2,7 +2,7 @@
 // and the kept arms of the open ranked loop. What is not open is blank.
 ghost use Rattle.std.specs.Prelude.{◌≡◌, ◌<◌};
 ghost use Rattle.meaning.specs.Limits.{depth_limit};
-ghost use Rattle.state.specs.Open.{blank_frame, nothing_open, counter_at, with_counter};
+ghost use Rattle.state.specs.Open.{nothing_passed, blank_frame, nothing_open, counter_at, with_counter};
 
 use crate::bounds::Bounds;
 use form::MAX_DEPTH;
@@ -15,27 +15,46 @@ pub const MAX_KEPT_TRIPS: usize = MAX_DEPTH * (MAX_DEPTH - 1) / 2;
 // nested inside it takes m + 9 records.
 pub const MAX_KEPT_ARMS: usize = MAX_DEPTH * (MAX_RECORDS - 9);
 
-// Of an open record: what was passed around it, and what it passed itself: its arms, or the trips visited before if it is a walked loop.
-#[derive(Clone, Copy)]
+// What an open record passed: its arms, or the trips visited before if it is a walked loop; and 0 where it passed no arm. That stays a number beside the
+// bounds, since `stages::stage` promises the next state for every frame, also one that no stage gives.
+#[derive(Clone, Copy, PartialEq, Eq)]
+pub struct Passed {
+    pub bounds: Bounds,
+    pub arm: u64,
+}
+
+// Of an open record: what was passed around it, and what it passed itself.
+#[derive(Clone, Copy, PartialEq, Eq)]
 pub struct Frame {
     pub around: Bounds,
-    pub passed: Option<Bounds>,
+    pub passed: Passed,
 }
 
 // How many arms are kept, and each of them. Stays a length beside its buffer, since there is no heap, and the kit's ArrayVec
 // is no Copy: `State` would lose its Copy, which callers of `stages::stage` may use.
-#[derive(Clone, Copy)]
+#[derive(Clone, Copy, PartialEq, Eq)]
 pub struct Arms {
     pub count: usize,
     pub bounds: [Bounds; MAX_KEPT_ARMS],
 }
 
-#[derive(Clone, Copy)]
+#[derive(Clone, Copy, PartialEq, Eq)]
 pub struct Open {
     pub counters: [u64; MAX_DEPTH],
     pub frames: [Frame; MAX_OPEN],
     pub kept: [Bounds; MAX_KEPT_TRIPS],
     pub arms: Arms,
+}
+
+impl Passed {
+    pub fn nothing() -> Passed
+        ensures { result ≡ nothing_passed }
+    {
+        Passed {
+            bounds: Bounds::exactly(0),
+            arm: 0,
+        }
+    }
 }
 
 impl Frame {
@@ -44,7 +63,7 @@ impl Frame {
     {
         Frame {
             around: Bounds::exactly(0),
-            passed: None,
+            passed: Passed::nothing(),
         }
     }
 }
