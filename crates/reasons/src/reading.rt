@@ -45,10 +45,14 @@ pub fn read_reason(line: &[u8]) -> Option<Reason>
     ensures exact { ReadsBack line.now (found_in result) }
 {
     let choice = Reason::HoldsLoop(number_at(line, CHOICE.len()));
+    if is_line(line, choice) {
+        return Some(choice);
+    }
     let k = number_at(line, LOOP.len());
     let few = Reason::TooFewTrips(k);
+    if is_line(line, few) {
+        return Some(few);
+    }
     let uneven = Reason::UnevenIn(k, number_at(line, uneven_position(k)));
-    [choice, few, uneven]
-        .into_iter()
-        .find(|reason| is_line(line, *reason))
+    is_line(line, uneven).then_some(uneven)
 }
