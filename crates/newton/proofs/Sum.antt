@@ -4,7 +4,7 @@ use Rattle.whole.specs.Integer.{floor_remainder}
 use Rattle.whole.specs.Newton.{newton_sum, weighted_differences}
 use Rattle.whole.specs.Residue.{Congruent}
 use Rattle.meaning.specs.Limits.{depth_limit}
-use Rattle.whole.proofs.Residue.{congruent-pos, congruent-unique, congruent-floor_remainder, congruent-wrapping-add, congruent-wrapping-sub, congruent-wrapping-mul}
+use Rattle.whole.proofs.Residue.{congruent-pos, congruent-unique, congruent-floor_remainder, congruent-wrapping-add, congruent-wrapping-sub, congruent-wrapping-mul, congruent-weighted}
 use Rattle.whole.proofs.Newton.{newton_sum-padded}
 use Rattle.newton.specs.declared.Weights.{Weights}
 use Rattle.newton.specs.Weights.{weights_of, word_of, differences_of, weighted_sum}
@@ -55,15 +55,35 @@ module _ (p : List ℕ) (fits : (k : ℕ) → get_or p k 0 < 2 ^ 64) where
       let third = held-less (less-fits _ _) (less-fits _ _) after second in
       λ i. held-word (fits 0) (value 0) i ∷ held-word (less-fits _ _) first i ∷ held-word (less-fits _ _) second i ∷ held-word (less-fits _ _) third i ∷ []
 
+-- from the wrapped differences, products and sums, which have the code's names
+pub wrapped_sum : (w : Weights) (p : List ℕ) (first-difference second-difference third-difference : ℕ)
+    {next-first last-first next-second by_one by_two by_three by-four from-three from-two r : ℕ}
+    → (first-difference + get_or p 0 0) % 2 ^ 64 ≡ get_or p 1 0 → (next-first + get_or p 1 0) % 2 ^ 64 ≡ get_or p 2 0 → (last-first + get_or p 2 0) % 2 ^ 64 ≡ get_or p 3 0
+    → (second-difference + first-difference) % 2 ^ 64 ≡ next-first → (next-second + next-first) % 2 ^ 64 ≡ last-first
+    → (third-difference + second-difference) % 2 ^ 64 ≡ next-second
+    → by_one ≡ (get_or p 0 0 * w.one) % 2 ^ 64 → by_two ≡ (first-difference * w.two) % 2 ^ 64 → by_three ≡ (second-difference * w.three) % 2 ^ 64
+    → by-four ≡ (third-difference * w.four) % 2 ^ 64
+    → from-three ≡ (by_three + by-four) % 2 ^ 64 → from-two ≡ (by_two + from-three) % 2 ^ 64 → r ≡ (by_one + from-two) % 2 ^ 64
+    → r ≡ floor_remainder (weighted_sum w p) (2 ^ 64)
+unfolding weighted_sum
+wrapped_sum w p first-difference second-difference third-difference e1 e2 e3 e4 e5 e6 f1 f2 f3 f4 g1 g2 g3 =
+    congruent-unique (2 ^ 64) (omega arith)
+    (congruent-weighted (2 ^ 64) first-difference _ _ second-difference _ third-difference _ _ _ _ _ _ _ (value 0) (value 1) (value 2) (value 3)
+    (congruent-pos (2 ^ 64) w.one) (congruent-pos (2 ^ 64) w.two) (congruent-pos (2 ^ 64) w.three) (congruent-pos (2 ^ 64) w.four)
+    e1 e2 e3 e4 e5 e6 f1 f2 f3 f4 g1 g2 g3)
+  where
+    value : (k : ℕ) → Held (get_or p k 0) (pos (get_or p k 0))
+    value k = congruent-pos (2 ^ 64) (get_or p k 0)
+
 -- the words of the differences, each times its weight, added up
 abbrev pub added_up : Weights → List ℕ → ℕ
 added_up w d =
     ((get_or d 0 0 * w.one) % 2 ^ 64
     + ((get_or d 1 0 * w.two) % 2 ^ 64 + ((get_or d 2 0 * w.three) % 2 ^ 64 + (get_or d 3 0 * w.four) % 2 ^ 64) % 2 ^ 64) % 2 ^ 64) % 2 ^ 64
 
-pub wrapped_sum : (w : Weights) (p : List ℕ) {d : List ℕ} → d ≡ differences_of p → added_up w d ≡ floor_remainder (weighted_sum w p) (2 ^ 64)
+pub differences-sum : (w : Weights) (p : List ℕ) {d : List ℕ} → d ≡ differences_of p → added_up w d ≡ floor_remainder (weighted_sum w p) (2 ^ 64)
 unfolding weighted_sum weighted_differences differences_of
-wrapped_sum w p e =
+differences-sum w p e =
     ap (added_up w) e
     ∙ congruent-unique (2 ^ 64) (omega arith)
     (plus (times _ w.one) (plus (times _ w.two) (plus (times _ w.three) (times _ w.four))))
