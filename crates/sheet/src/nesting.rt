@@ -12,7 +12,7 @@ use crate::refusal::{Refusal, RefusalKind};
 use form::MAX_DEPTH;
 use records::loops::Loop;
 use records::work::Work;
-use records::{Kind, MAX_OPEN};
+use records::{Kind, MAX_OPEN, is_loop};
 
 // How many records are open, how many of these are loops, and which: bit 0 of `loops` is 1 where the innermost is a loop, and so on outward.
 // Stays three numbers with no invariant, since docs/PROOFS.md has `accept_record` and `Nesting::after` promise for any three.
@@ -72,14 +72,13 @@ impl Nesting {
     }
 
     // What is open after a record; `open`: after one that may stand here, where the three numbers are those of a list of open records.
-    #[tactic(auto, unfolding(crate::specs::Nestings::nesting_after, crate::specs::Nestings::nesting_after_as))]
+    #[tactic(auto, unfolding(crate::specs::Nestings::nesting_after, crate::specs::Nestings::nesting_after_as, records::specs::View::is_loop_kind))]
     pub fn after(self, kind: u8) -> Nesting
         ensures numbers { result ≡ nesting_after self kind }
         ensures open { (os us : List Open) → self ≡ nesting_of os → open_after_kind os kind ≡ some us → result ≡ nesting_of us }
     {
         match Kind::of(kind) {
-            Some(Kind::Loop | Kind::SkipLoop) => self.extended(true),
-            Some(Kind::Choice) => self.extended(false),
+            Some(Kind::Loop | Kind::SkipLoop | Kind::Choice) => self.extended(is_loop(kind)),
             Some(Kind::End) => self.closed(),
             Some(Kind::Work | Kind::NextArm) | None => self,
         }
