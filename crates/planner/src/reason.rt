@@ -42,18 +42,19 @@ fn is_loop_with(rows: &Rows, number: usize, m: usize) -> bool
     role_at(rows, number) == Role::Loop && depth_at(rows, number) == m
 }
 
-// Of the loops that a record stands in, the one with m loops around it: the last such loop before the record. Stays a number, 0 where there is none, since an
-// Option would only be unwrapped at the one call, where there is such a loop; and a `for` that keeps the last, since the library has no law of `rev` over a range.
+// Of the loops that a record stands in, the one with m loops around it: the last such loop before the record, so they are gone through backward, up to the
+// first that is found. Stays a number, 0 where there is none, since an Option would only be unwrapped at the one call, where there is such a loop; and a `for`
+// over how far back, since the library has no law of `rev` over a range.
 fn loop_around(rows: &Rows, number: usize, m: usize) -> usize
     ensures { result ≡ loop_around rows.now m number }
 {
-    let mut last = 0;
-    for i in 0..number {
+    for back in 0..number {
+        let i = number - 1 - back;
         if is_loop_with(rows, i, m) {
-            last = i;
+            return i;
         }
     }
-    last
+    0
 }
 
 // The first loop K inside a loop that fails a test, in sheet order: for each K too few trips before uneven, and M from the outermost inward. The search
