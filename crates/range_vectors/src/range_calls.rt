@@ -51,27 +51,28 @@ fn library_agrees(case: Case, sheet: &[u8], given: &[u8], stored: &[u8]) -> bool
     case.has_answer(answer, extremes_in(stored))
 }
 
-// What follows the 40th byte has to stay, and every byte where the call refuses.
+// What follows the 40th byte has to stay, and every byte where the call refuses. An area that is longer than the space is not lent: the number 0 stands for
+// the answer, and nothing is written.
 fn c_agrees(case: Case, sheet: &[u8], given: &[u8], number: u8, stored: &[u8]) -> bool {
     let mut area = [FILL; LENT];
-    let Some(answer) = area.get_mut(..case.count) else {
-        return false;
-    };
     let [p1, p2, p3, p4] = parameters_in(given);
     let budget = budget_in(given);
     let range = range_in(given);
-    let returned = pumdalin_range(
-        sheet,
-        p1,
-        p2,
-        p3,
-        p4,
-        budget,
-        range.number,
-        range.first,
-        range.last,
-        answer,
-    );
+    let lent = area.get_mut(..case.count);
+    let returned = lent.map_or(0, |answer| {
+        pumdalin_range(
+            sheet,
+            p1,
+            p2,
+            p3,
+            p4,
+            budget,
+            range.number,
+            range.first,
+            range.last,
+            answer,
+        )
+    });
     returned == u32::from(number) && holds(&area, left_after(returned, stored))
 }
 

@@ -35,9 +35,8 @@ fn c_agrees(case: Case, sheet: &[u8], given: &[u8], stored: &[u8]) -> bool {
     number == u32::from(case.number) && holds(&area, left_after(number, stored))
 }
 
+// Where nothing follows the sheet, the parameters and the budget are 0, and only a refusal agrees.
 pub(crate) fn calls_agree(case: Case, sheet: &[u8], own: &[u8]) -> bool {
-    let Some((given, stored)) = own.split_at_checked(GIVEN) else {
-        return false;
-    };
+    let (given, stored) = own.split_at_checked(GIVEN).unwrap_or((own, &[]));
     library_agrees(case, sheet, given, stored) && c_agrees(case, sheet, given, stored)
 }

@@ -4,6 +4,7 @@ use crate::texts::lent_agrees;
 use cases::calls::Conversion;
 use cases::headers::Case;
 use converter::{with_skips, without_skips};
+use encoding::number::byte_at;
 use exports::{pumdalin_with_skips, pumdalin_without_skips};
 
 fn library_agrees(case: Case, conversion: Conversion, sheet: &[u8], new_sheet: &[u8]) -> bool {
@@ -26,16 +27,16 @@ fn c_agrees(
     })
 }
 
-// After the sheet stand the number that the C call returns, since its area may be too short, and the new sheet.
+// After the sheet stand the number that the C call returns, since its area may be too short, and the new sheet; where nothing follows, they are 0 and
+// empty.
 pub(crate) fn conversion_agrees(
     case: Case,
     conversion: Conversion,
     sheet: &[u8],
     own: &[u8],
 ) -> bool {
-    let Some((number, new_sheet)) = own.split_first() else {
-        return false;
-    };
+    let number = byte_at(own, 0);
+    let new_sheet = own.get(1..).unwrap_or(&[]);
     library_agrees(case, conversion, sheet, new_sheet)
-        && c_agrees(case, conversion, sheet, *number, new_sheet)
+        && c_agrees(case, conversion, sheet, number, new_sheet)
 }

@@ -60,15 +60,19 @@ impl Tally {
     }
 }
 
-// Whether the case comes out as reckoned; nothing where the file ends within what follows its header. What follows a sheet has the room of
-// the longest text.
+// Whether the case comes out as reckoned; nothing where the file ends within what follows its header, or where the sheet is longer than any case's, or what
+// follows the sheet longer than the longest text: these two are tested before anything is read.
 fn run_case<F: Read>(file: &mut F, case: Case) -> io::Result<Option<bool>> {
+    let after = entries_length(case);
+    if MOST_SHEET < case.sheet || TEXT_LENGTH < after {
+        return Ok(None);
+    }
     let mut space = [0; MOST_SHEET + TEXT_LENGTH];
-    let body = case.body(file, &mut space, entries_length(case))?;
+    let body = case.body(file, &mut space, after)?;
     Ok(body.map(|(sheet, own)| agrees(case, sheet, own)))
 }
 
-// Every case of the file; the last differs where the file ends within what follows its header.
+// Every case of the file; the last differs where the file ends within what follows its header, or that is too long.
 // Stays beside the same loop of `range_vectors`, as `run_case` and `main` do, since a public function of `cases` needs a contract, and none could tell this loop
 // from one that runs no case.
 fn run_all<F: Read>(file: &mut F, tally: &mut Tally) -> io::Result<()> {
