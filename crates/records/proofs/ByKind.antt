@@ -1,19 +1,20 @@
 -- Kinds by their numbers: what follows for a number from each kind and from no kind; a record from its body.
 use mathlib.Core.Path.{◌≡◌, refl, sym, ap, subst, ◌∙◌}
 use mathlib.Core.List.{List}
-use mathlib.Core.Bool.{Bool, true, false, cond}
+use mathlib.Core.Bool.{Bool, true, false, cond, ◌||◌}
 use mathlib.Core.Option.{Option, none, some}
 use Prim.Native.Nat.{ℕ, ◌<◌}
 use native.Mathlib.Omega.{arith}
-use borrow.Author.Tests.{eqb-true, eqb-false}
+use borrow.Author.Tests.{eqb-true, eqb-false, ne_eqb}
 use lib.Dec.{eqb}
 use Rattle.meaning.specs.Record as M
 use Rattle.meaning.specs.Record.{Kind, work_kind, loop_kind, end_kind, choice_kind, next_arm_kind, kind_number, kind_of, is_given, skip_where, skip_or, decode_record, loop_record}
-use Rattle.meaning.proofs.RecordBytes.{kind_number-kind_of}
+use Rattle.meaning.proofs.Logic.{true-is-not-false}
+use Rattle.meaning.proofs.RecordBytes.{kind_of-kind_number, kind_number-kind_of}
 use Rattle.records.specs.declared.work.Work.{Work}
 use Rattle.records.specs.declared.loops.Loop.{Loop}
 use Rattle.records.specs.declared.Record.{Record}
-use Rattle.records.specs.View.{blank_work, blank_record, work_of, loop_of, record_in, decoded_as, decoded}
+use Rattle.records.specs.View.{is_loop_kind, is_loop, blank_work, blank_record, work_of, loop_of, record_in, decoded_as, decoded}
 
 by_number : (P : ℕ → Option Kind → Type 0) (n m : ℕ) (x y : Option Kind) → P m x → ((n ≡ m → ⊥) → P n y) → P n (cond (eqb n m) x y)
 by_number P n m x y p q = go (eqb n m) refl
@@ -36,11 +37,38 @@ by_kind P work loop end choice arm skip_loop other n =
     by_number P n 6 (some (loop_kind true)) none skip_loop λ h6.
     other n λ above below. omega arith
 
+-- loops have the numbers 2 and 6
+pub loop-numbers : (n : ℕ) → eqb n 2 || eqb n 6 ≡ is_loop n
+unfolding is_loop_kind
+loop-numbers =
+    by_kind (λ (n : ℕ) (k : Option Kind). eqb n 2 || eqb n 6 ≡ is_loop_kind k) refl refl refl refl refl refl
+    (λ n h. λ i. ne_eqb n 2 (λ e. h (omega arith) (omega arith)) i || ne_eqb n 6 (λ e. h (omega arith) (omega arith)) i)
+
+-- a kind's number names it
+pub named : (k : Kind) {n : ℕ} → n ≡ kind_number k → kind_of n ≡ some k
+named k e = ap kind_of e ∙ kind_of-kind_number k
+
 -- only the kind with a skip has the number 6
 pub skip-by-number : (has_skip : Bool) → eqb (kind_number (loop_kind has_skip)) 6 ≡ has_skip
 unfolding kind_number
 skip-by-number true = refl
 skip-by-number false = refl
+
+-- a number that is neither a work's nor a loop's names a kind without fields, or none
+pub without-fields : (P : ℕ → Option Kind → Type 0) → P 3 (some end_kind) → P 4 (some choice_kind) → P 5 (some next_arm_kind) → ((n : ℕ) → P n none)
+    → {n : ℕ} → (n ≡ 1 → ⊥) → is_loop n ≡ false → P n (kind_of n)
+unfolding is_loop_kind
+without-fields P end choice arm other {n} =
+    by_kind (λ (m : ℕ) (k : Option Kind). (m ≡ 1 → ⊥) → is_loop_kind k ≡ false → P m k)
+    (λ h _. absurd (h refl)) (λ _ h. true-is-not-false h) (λ _ _. end) (λ _ _. choice) (λ _ _. arm) (λ _ h. true-is-not-false h) (λ m _ _ _. other m) n
+
+-- the number of a loop's kind: 6 where it has a skip
+pub loop-named : (n : ℕ) → is_loop n ≡ true → kind_of n ≡ some (loop_kind (eqb n 6))
+unfolding is_loop_kind
+loop-named n =
+    by_kind (λ (m : ℕ) (k : Option Kind). is_loop_kind k ≡ true → k ≡ some (loop_kind (eqb m 6)))
+    (λ h. true-is-not-false (sym h)) (λ _. refl) (λ h. true-is-not-false (sym h)) (λ h. true-is-not-false (sym h)) (λ h. true-is-not-false (sym h)) (λ _. refl)
+    (λ m _ h. true-is-not-false (sym h)) n
 
 -- ---- a record from its body: a blank one of its kind, in which the kind's fields are stored
 

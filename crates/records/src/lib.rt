@@ -125,12 +125,12 @@ pub fn is_kind(number: u8) -> bool
     Kind::of(number).is_some()
 }
 
-// Whether a kind is one of the two kinds of loops.
-#[tactic(auto, unfolding(crate::specs::View::is_loop_kind))]
+// Whether a kind is one of the two kinds of loops. By the number, since of a `match` over all kinds the compiler makes a table of jumps, and a reader asks it of
+// each record (docs/DESIGN-PASS.md).
 pub fn is_loop(kind: u8) -> bool
     ensures { result ≡ is_loop kind }
 {
-    matches!(Kind::of(kind), Some(Kind::Loop | Kind::SkipLoop))
+    kind == Kind::Loop.number() || kind == Kind::SkipLoop.number()
 }
 
 // The length of a kind's body; 0 for a number that is no kind.

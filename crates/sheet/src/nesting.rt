@@ -4,8 +4,7 @@ ghost use Rattle.std.proofs.Math.Option.{some};
 ghost use Rattle.meaning.specs.Record as M;
 ghost use Rattle.meaning.specs.Record.{kind_of, body_length, decode_record, Open, loop_depth};
 ghost use Rattle.meaning.specs.Reader.{accept};
-ghost use Rattle.records.specs.View.{meant};
-ghost use Rattle.sheet.specs.Nestings.{nesting_of, fields_pass_as, open_after_kind, extended_nesting, closed_nesting, nesting_after, may_stand_in_as};
+ghost use Rattle.sheet.specs.Nestings.{nesting_of, fields_pass, open_after_kind, extended_nesting, closed_nesting, nesting_after, may_stand_in};
 ghost use Rattle.sheet.specs.Answers.{refusable, accepted_of, accept_in};
 
 use crate::refusal::{Refusal, RefusalKind};
@@ -33,17 +32,19 @@ pub struct AcceptedRecord {
     pub after: Nesting,
 }
 
-// 3: whether the fields of a record are in their ranges, `depth` loops being around it.
-#[tactic(auto, unfolding(crate::specs::Nestings::fields_pass_as, meaning::specs::Record::fields_in_range, meaning::specs::Record::decode_record))]
-fn fields_in_range(kind: Option<Kind>, body: &[u8], depth: usize) -> bool
-    ensures { (os : List Open) → loop_depth os ≡ depth → result ≡ fields_pass_as os body.now (meant kind) }
+// 3: whether the fields of a record are in their ranges, `depth` loops being around it. A work and a loop are told by their numbers, and a loop is in `allows`,
+// before any `match`: of one over all kinds the compiler makes a table of jumps, and a sheet is read in 1.6 times the time (docs/DESIGN-PASS.md).
+#[tactic(auto, unfolding(crate::specs::Nestings::fields_pass, crate::specs::Nestings::fields_pass_as, meaning::specs::Record::fields_in_range, meaning::specs::Record::decode_record))]
+fn fields_in_range(kind: u8, body: &[u8], depth: usize) -> bool
+    ensures { (os : List Open) → loop_depth os ≡ depth → result ≡ fields_pass os kind body.now }
 {
-    match kind {
-        Some(Kind::Work) => Work::in_range(body),
-        Some(Kind::Loop) => Loop::in_range(body, false, depth),
-        Some(Kind::SkipLoop) => Loop::in_range(body, true, depth),
-        Some(Kind::End | Kind::Choice | Kind::NextArm) | None => true,
+    if kind == Kind::Work.number() {
+        return Work::in_range(body);
     }
+    if is_loop(kind) {
+        return Loop::in_range(body, kind == Kind::SkipLoop.number(), depth);
+    }
+    true
 }
 
 impl Nesting {
@@ -58,16 +59,18 @@ impl Nesting {
     }
 
     // 5: whether a record of this kind may stand here.
-    #[tactic(auto, unfolding(crate::specs::Nestings::may_stand_in_as))]
-    fn allows(self, kind: Option<Kind>) -> bool
-        ensures { result ≡ may_stand_in_as self (meant kind) }
+    #[tactic(auto, unfolding(crate::specs::Nestings::may_stand_in, crate::specs::Nestings::may_stand_in_as, records::specs::View::is_loop_kind))]
+    fn allows(self, kind: u8) -> bool
+        ensures { result ≡ may_stand_in self kind }
     {
-        match kind {
-            Some(Kind::Loop | Kind::SkipLoop) => self.depth < MAX_DEPTH && self.size < MAX_OPEN,
+        if is_loop(kind) {
+            return self.depth < MAX_DEPTH && self.size < MAX_OPEN;
+        }
+        match Kind::of(kind) {
             Some(Kind::Choice) => self.size < MAX_OPEN,
             Some(Kind::End) => self.size != 0,
             Some(Kind::NextArm) => self.size != 0 && self.loops % 2 == 0,
-            Some(Kind::Work) | None => true,
+            Some(Kind::Work | Kind::Loop | Kind::SkipLoop) | None => true,
         }
     }
 
@@ -127,14 +130,13 @@ pub fn accept_record(
     ensures records { (os : List Open) (k : M.Kind) → here ≡ nesting_of os → kind_of kind ≡ some k → length body.now ≡ body_length k →
         refusable result ≡ accepted_of (accept at os (decode_record k body.now)) }
 {
-    let known = Kind::of(kind);
-    if !fields_in_range(known, body, here.depth) {
+    if !fields_in_range(kind, body, here.depth) {
         return Err(Refusal {
             kind: RefusalKind::FieldOutOfRange,
             offset: at,
         });
     }
-    if !here.allows(known) {
+    if !here.allows(kind) {
         return Err(Refusal {
             kind: RefusalKind::Misplaced,
             offset: at,
