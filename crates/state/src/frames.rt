@@ -1,39 +1,12 @@
 // The frames of the open records.
 ghost use Rattle.std.specs.Prelude.{◌≡◌};
 ghost use Rattle.state.specs.Open.{with_frames};
-ghost use Rattle.state.specs.Frames.{arm_joins, trip_joins, frame_opened, frame_left, sums_around, passed_around, arm_passed, trip_passed};
+ghost use Rattle.state.specs.Frames.{frame_opened, frame_left, sums_around, passed_around, arm_passed, trip_passed};
 
 use crate::bounds::Bounds;
-use crate::open::{Frame, Open, Passed};
+use crate::open::{Frame, Open};
 use crate::sums::Sums;
 use records::MAX_OPEN;
-
-impl Passed {
-    // With an arm more, the first or a further one.
-    fn with_arm(self, arm: Bounds) -> Passed
-        ensures { result ≡ arm_joins self arm }
-    {
-        let bounds = if self.arm == 0 {
-            arm
-        } else {
-            self.bounds.joined(arm)
-        };
-        Passed {
-            bounds,
-            arm: self.arm.max(1),
-        }
-    }
-
-    // With a trip more.
-    fn with_trip(self, trip: Bounds) -> Passed
-        ensures { result ≡ trip_joins self trip }
-    {
-        Passed {
-            bounds: self.bounds.plus(trip),
-            arm: self.arm,
-        }
-    }
-}
 
 impl Open {
     // A frame opens: it keeps what is around it.
@@ -65,8 +38,13 @@ impl Open {
     pub fn pass_arm(&mut self, number: usize, arm: Bounds)
         ensures { self.new ≡ with_frames self.old (arm_passed self.old.frames number arm) }
     {
-        let place = number % MAX_OPEN;
-        self.frames[place].passed = self.frames[place].passed.with_arm(arm);
+        let passed = &mut self.frames[number % MAX_OPEN].passed;
+        if passed.arm == 0 {
+            passed.bounds = arm;
+            passed.arm = 1;
+        } else {
+            passed.bounds = passed.bounds.joined(arm);
+        }
     }
 
     // The open trip joins the trips visited before of the walked loop that has the frame.
@@ -74,8 +52,8 @@ impl Open {
     pub fn pass_trip(&mut self, number: usize, trip: Bounds)
         ensures { self.new ≡ with_frames self.old (trip_passed self.old.frames number trip) }
     {
-        let place = number % MAX_OPEN;
-        self.frames[place].passed = self.frames[place].passed.with_trip(trip);
+        let passed = &mut self.frames[number % MAX_OPEN].passed;
+        passed.bounds = passed.bounds.plus(trip);
     }
 
     // The frame of a choice or a walked loop is left, and what it passed goes to what is around it.
