@@ -101,13 +101,13 @@ pub fn pass_choice(arrays: &PlanArrays, state: &mut State)
 {
     match role_at(&arrays.rows, state.at) {
         Role::Choice => open_choice(&arrays.rows, state),
-        Role::End => {
+        role => {
+            // One call for both, since the compiler puts it in line only so.
             let frame = join_arm(arrays, state);
-            state.opened.close_frame(frame, &mut state.sums);
-        },
-        _ => {
-            join_arm(arrays, state);
-            state.sums.reset();
-        },
+            match role {
+                Role::End => state.opened.close_frame(frame, &mut state.sums),
+                _ => state.sums.reset(),
+            }
+        }
     }
 }

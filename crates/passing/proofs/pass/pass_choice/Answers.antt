@@ -7,16 +7,20 @@ pub returns-in-Choice-clause-after : goal.returns-in-Choice-clause-after
 returns-in-Choice-clause-after c = let a = c.args in
     choice-opens a.arrays.now.rows a.state.now.at c.role_at.ensures a.arrays.now.limits a.state.now refl c.in-Choice.is ∙ c.open_choice.ensures.after
 
-pub returns-in-End-clause-after : goal.returns-in-End-clause-after
-returns-in-End-clause-after c = let a = c.args in
-    choice-ends a.arrays.now.rows a.state.now.at c.role_at.ensures a.arrays.now.limits a.state.now refl c.join_arm-frame.ensures.after
-    c.join_arm-frame.ensures.value c.in-End.is c.close_frame.ensures.sums_after c.close_frame.ensures.opened_after
-
-pub returns-in_default : goal.returns-in_default
-returns-in_default c = let a = c.args in
+pub returns-in-End : goal.returns-in-End
+returns-in-End c = let a = c.args in
     record {
-      stands = let j = c.join_arm.ensures.after in cc;
+      stands = let j = c.join_arm-frame.ensures.after in cc;
+      after =
+          choice-ends a.arrays.now.rows a.state.now.at c.role_at.ensures a.arrays.now.limits a.state.now refl c.join_arm-frame.ensures.after
+          c.join_arm-frame.ensures.value c.in-End.is c.close_frame.ensures.sums_after c.close_frame.ensures.opened_after;
+    }
+
+pub returns-in_default-role : goal.returns-in_default-role
+returns-in_default-role c = let a = c.args in
+    record {
+      stands = let j = c.join_arm-frame.ensures.after in cc;
       after =
           next-arm-opens a.arrays.now.rows a.state.now.at c.role_at.ensures a.arrays.now.limits a.state.now refl
-          c.join_arm.ensures.after c.in_default.not-Choice c.in_default.not-End c.reset.ensures;
+          c.join_arm-frame.ensures.after c.in_default.not-Choice c.in_default-role.not-End c.reset.ensures;
     }
