@@ -33,7 +33,7 @@ pub struct AcceptedRecord {
 }
 
 // 3: whether the fields of a record are in their ranges, `depth` loops being around it. A work and a loop are told by their numbers, and a loop is in `allows`,
-// before any `match`: of one over all kinds the compiler makes a table of jumps, and a sheet is read in 1.6 times the time (docs/DESIGN-PASS.md).
+// before any `match`: of one over all kinds the compiler makes a table of jumps, and a sheet of works is read in 1.6 times the instructions (docs/LOOK-BACK.md).
 #[tactic(auto, unfolding(crate::specs::Nestings::fields_pass, crate::specs::Nestings::fields_pass_as, meaning::specs::Record::fields_in_range, meaning::specs::Record::decode_record))]
 fn fields_in_range(kind: u8, body: &[u8], depth: usize) -> bool
     ensures { (os : List Open) → loop_depth os ≡ depth → result ≡ fields_pass os kind body.now }
