@@ -75,13 +75,14 @@ impl Nesting {
     }
 
     // What is open after a record; `open`: after one that may stand here, where the three numbers are those of a list of open records.
-    #[tactic(auto, unfolding(crate::specs::Nestings::nesting_after, crate::specs::Nestings::nesting_after_as, records::specs::View::is_loop_kind))]
+    #[tactic(auto, unfolding(crate::specs::Nestings::nesting_after, crate::specs::Nestings::nesting_after_as))]
     pub fn after(self, kind: u8) -> Nesting
         ensures numbers { result ≡ nesting_after self kind }
         ensures open { (os us : List Open) → self ≡ nesting_of os → open_after_kind os kind ≡ some us → result ≡ nesting_of us }
     {
         match Kind::of(kind) {
-            Some(Kind::Loop | Kind::SkipLoop | Kind::Choice) => self.extended(is_loop(kind)),
+            Some(Kind::Loop | Kind::SkipLoop) => self.extended(true),
+            Some(Kind::Choice) => self.extended(false),
             Some(Kind::End) => self.closed(),
             Some(Kind::Work | Kind::NextArm) | None => self,
         }
